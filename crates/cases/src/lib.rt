@@ -1,0 +1,1 @@
+// The definition, evaluated on small descriptions: see specs/.

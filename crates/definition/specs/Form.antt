@@ -1,0 +1,381 @@
+-- The form of a description: refusals 1 to 4, in byte order, the lowest number of a field; then the two late looks; and W.
+use Prim.Native.Nat.{ℕ, zero, suc, _+_, _*_, _-_, _%_}
+use mathlib.Core.Bool.{Bool, true, false, not, cond, _&&_, _||_}
+use mathlib.Core.List.{List, [], _∷_}
+use lib.Dec.{eqb, ltb, leb}
+use lib.ListN.{length, getD}
+use Rattle.le.specs.Le.{at8, at16}
+use Rattle.answers.specs.declared.Refusal.{Refusal}
+use Rattle.widths.specs.declared.Shape.{Shape}
+use Rattle.description.specs.declared.Header.{Header}
+use Rattle.description.specs.declared.ChunkHead.{ChunkHead}
+use Rattle.description.specs.declared.Instr.{Instr}
+use Rattle.description.specs.Fields.{tagAt, lenAt, nextAt, fieldsFrom, ofTag, shapeOf, headerOf, chunkOf, tagsAt, paramsAt, paramsOf, instrOf, hasSite}
+use Rattle.definition.specs.declared.Scan.{Scan}
+use Rattle.definition.specs.declared.Step.{Step}
+use Rattle.definition.specs.declared.Step.the-variants.{Go, Stop}
+use Rattle.definition.specs.declared.Form.{Form}
+use Rattle.definition.specs.declared.Form.the-variants.{Fine, Refused}
+use Rattle.definition.specs.Module.{signedParams}
+
+-- a refusal that names neither chunk nor instruction
+abbrev pub nowhere : ℕ → ℕ → Refusal
+nowhere n steps = record { number = n; chunk = 65535; instruction = 65535; steps = steps }
+
+-- the lowest number whose fault is there, or 0
+abbrev pub lowest : Bool → Bool → Bool → Bool → ℕ
+lowest a b c d = cond a 1 (cond b 2 (cond c 3 (cond d 4 0)))
+
+-- ---- what the operands of an instruction mean
+abbrev pub noOperand : ℕ
+noOperand = 0
+
+abbrev pub constant : ℕ
+constant = 1
+
+abbrev pub local : ℕ
+local = 2
+
+abbrev pub slot : ℕ
+slot = 3
+
+abbrev pub slots : ℕ
+slots = 4
+
+abbrev pub target : ℕ
+target = 5
+
+abbrev pub callee : ℕ
+callee = 6
+
+abbrev pub composite : ℕ
+composite = 7
+
+abbrev pub part : ℕ
+part = 8
+
+abbrev pub immediate : ℕ
+immediate = 9
+
+abbrev pub native : ℕ
+native = 10
+
+-- the least and the most that an instruction takes, the least and the most that it gives, and the meaning of its operands
+pub record Fit : Type 0 where
+  pub takenLeast : ℕ
+  pub takenMost : ℕ
+  pub givenLeast : ℕ
+  pub givenMost : ℕ
+  pub meaning : ℕ
+
+abbrev pub line : ℕ → ℕ → ℕ → ℕ → ℕ → Fit
+line a b c d m = record { takenLeast = a; takenMost = b; givenLeast = c; givenMost = d; meaning = m }
+
+-- one line for each place of Op, its name behind it
+unfoldable pub fits : List Fit
+fits =
+    line 0 64 1 4 constant  -- 0 Const
+    ∷ line 0 64 1 4 local  -- 1 GetLocal
+    ∷ line 1 64 0 4 local  -- 2 SetLocal
+    ∷ line 0 64 1 4 slot  -- 3 GetData
+    ∷ line 1 64 0 4 slot  -- 4 SetData
+    ∷ line 1 64 1 4 slots  -- 5 GetDataIndexed
+    ∷ line 1 64 0 4 slots  -- 6 SetDataIndexed
+    ∷ line 1 64 0 4 noOperand  -- 7 BoundsCheck
+    ∷ line 0 64 1 4 noOperand  -- 8 Add
+    ∷ line 0 64 1 4 noOperand  -- 9 Sub
+    ∷ line 0 64 1 4 noOperand  -- 10 Mul
+    ∷ line 0 64 3 3 noOperand  -- 11 Div
+    ∷ line 0 64 3 3 noOperand  -- 12 Mod
+    ∷ line 0 64 1 4 noOperand  -- 13 Neg
+    ∷ line 2 64 1 4 noOperand  -- 14 CmpEq
+    ∷ line 2 64 1 4 noOperand  -- 15 CmpNe
+    ∷ line 2 64 1 4 noOperand  -- 16 CmpLt
+    ∷ line 2 64 1 4 noOperand  -- 17 CmpGt
+    ∷ line 2 64 1 4 noOperand  -- 18 CmpLe
+    ∷ line 2 64 1 4 noOperand  -- 19 CmpGe
+    ∷ line 1 64 1 4 noOperand  -- 20 Not
+    ∷ line 1 1 0 4 target  -- 21 If
+    ∷ line 0 64 0 4 target  -- 22 Else
+    ∷ line 0 64 0 4 noOperand  -- 23 EndIf
+    ∷ line 0 64 0 4 target  -- 24 Loop
+    ∷ line 0 64 0 4 target  -- 25 EndLoop
+    ∷ line 0 64 0 4 target  -- 26 Break
+    ∷ line 1 1 0 4 target  -- 27 BreakIf
+    ∷ line 0 64 0 4 noOperand  -- 28 Stream
+    ∷ line 0 64 0 4 noOperand  -- 29 Reset
+    ∷ line 0 64 1 4 callee  -- 30 Call
+    ∷ line 0 64 0 4 noOperand  -- 31 Return
+    ∷ line 1 64 1 4 noOperand  -- 32 Yield
+    ∷ line 1 64 0 4 noOperand  -- 33 Dup
+    ∷ line 0 64 1 4 composite  -- 34 NewComposite
+    ∷ line 1 64 1 4 part  -- 35 GetField
+    ∷ line 2 64 1 4 part  -- 36 GetIndex
+    ∷ line 1 64 1 4 part  -- 37 GetTupleField
+    ∷ line 1 64 1 4 part  -- 38 GetEnumField
+    ∷ line 0 64 0 4 noOperand  -- 39 Len
+    ∷ line 1 1 2 2 noOperand  -- 40 IsEnum
+    ∷ line 1 1 2 2 noOperand  -- 41 IsStruct
+    ∷ line 1 64 1 4 noOperand  -- 42 IntToFloat
+    ∷ line 1 64 1 4 noOperand  -- 43 FloatToInt
+    ∷ line 1 64 1 4 noOperand  -- 44 WordToByte
+    ∷ line 1 64 1 4 noOperand  -- 45 ByteToWord
+    ∷ line 1 64 1 4 noOperand  -- 46 WordToFixed
+    ∷ line 1 64 1 4 noOperand  -- 47 FixedToWord
+    ∷ line 1 64 1 4 noOperand  -- 48 FixedMul
+    ∷ line 1 64 3 3 noOperand  -- 49 FixedDiv
+    ∷ line 0 64 0 4 noOperand  -- 50 Trap
+    ∷ line 0 64 3 3 noOperand  -- 51 CheckedAdd
+    ∷ line 0 64 3 3 noOperand  -- 52 CheckedSub
+    ∷ line 0 64 3 3 noOperand  -- 53 CheckedMul
+    ∷ line 0 64 3 3 noOperand  -- 54 CheckedNeg
+    ∷ line 0 64 3 3 noOperand  -- 55 CheckedDiv
+    ∷ line 0 64 3 3 noOperand  -- 56 CheckedMod
+    ∷ line 0 64 1 4 immediate  -- 57 PushImmediate
+    ∷ line 0 64 0 4 noOperand  -- 58 PopN
+    ∷ line 1 64 1 4 noOperand  -- 59 BitAnd
+    ∷ line 1 64 1 4 noOperand  -- 60 BitOr
+    ∷ line 1 64 1 4 noOperand  -- 61 BitXor
+    ∷ line 2 64 1 4 noOperand  -- 62 Shl
+    ∷ line 2 64 1 4 noOperand  -- 63 Shr
+    ∷ line 0 64 1 4 native  -- 64 CallVerifiedNative
+    ∷ line 0 64 1 4 native  -- 65 CallExternalNative
+    ∷ []
+
+unfoldable pub fitOf : ℕ → Fit
+fitOf op = getD fits op (line 0 64 0 4 noOperand)
+
+-- ---- the rules of each field
+unfoldable pub headerFault : Bool → ℕ → Header → ℕ
+headerFault due len h =
+    lowest
+    (not due || not (eqb len 15) || ltb 1 (h .layout) || ltb 1 (h .owns) || (eqb (h .layout) 0 && not (eqb (h .slots) 0)))
+    (ltb 31 (h .float) || ltb 64 (h .chunks) || ltb (h .chunks) (h .signatures) || ltb 1024 (h .slots))
+    (leb (h .signatures) (h .entry))
+    false
+
+unfoldable pub shapeFine : Shape → Bool
+shapeFine s = ltb (s .tag) 3 && ltb (s .width) 3
+
+-- n type tags from q on are places of TypeTag
+unfoldable pub tagsFine : List ℕ → ℕ → ℕ → Bool
+tagsFine s q zero = true
+tagsFine s q (suc n) = ltb (at8 s q) 8 && tagsFine s (q + 1) n
+
+unfoldable pub shapesFine : List ℕ → ℕ → ℕ → Bool
+shapesFine s q zero = true
+shapesFine s q (suc n) = shapeFine (shapeOf s q) && shapesFine s (q + 7) n
+
+-- the length of field 2, from its counts; a chunk past the signatures ends after the type tags
+unfoldable pub chunkLen : List ℕ → ℕ → Bool → ℕ → ℕ
+chunkLen s p signed tags = cond signed (16 + tags + 7 * paramsOf s p) (8 + tags)
+
+unfoldable pub signatureFine : List ℕ → ℕ → Bool → Bool
+signatureFine s p signed = cond signed (shapesFine s (paramsAt s p + 1) (paramsOf s p + 1)) true
+
+unfoldable pub chunkFault : List ℕ → ℕ → Bool → ℕ → Bool → ChunkHead → ℕ
+chunkFault s p due len signed h =
+    lowest
+    (not due || not (eqb (chunkLen s p signed (h .tags)) len && tagsFine s (tagsAt p) (h .tags) && signatureFine s p signed) || ltb 1 (h .reachable) || ltb 2 (h .block))
+    (ltb 256 (h .locals) || ltb 64 (h .stack) || ltb 16 (h .arity) || ltb 16 (h .tags) || ltb 16 (signedParams s p signed))
+    (ltb (h .locals) (signedParams s p signed))
+    false
+
+-- an operand with no meaning: not 0 where nothing is read, or the place of no case
+unfoldable pub senseless : ℕ → Instr → Bool
+senseless m i =
+    (eqb m noOperand && (not (eqb (i .a) 0) || not (eqb (i .b) 0) || not (eqb (i .c) 0)))
+    || (eqb m constant && (ltb 11 (i .a) || ltb 1 (i .b) || (not (eqb (i .a) 1) && not (eqb (i .b) 0))))
+    || ((eqb m local || eqb m slot || eqb m target || eqb m callee || eqb m immediate || eqb m native) && (not (eqb (i .b) 0) || not (eqb (i .c) 0)))
+    || (eqb m slots && not (eqb (i .c) 0))
+    || (eqb m composite && (ltb 1 (i .a) || (eqb (i .a) 1 && not (eqb (i .c) 0))))
+    || (eqb m part && (ltb 2 (i .a) || (eqb (i .a) 0 && not (eqb (i .c) 0)) || (eqb (i .a) 2 && (not (eqb (i .b) 0) || not (eqb (i .c) 0)))))
+
+-- an operand over its largest value
+unfoldable pub tooLarge : ℕ → Instr → Bool
+tooLarge m i =
+    ((eqb m local || eqb m target || eqb m callee || eqb m native) && ltb 65535 (i .a))
+    || (eqb m immediate && ltb 255 (i .a))
+    || (eqb m composite && (ltb 3 (i .b) || ltb 65535 (i .c)))
+    || (eqb m part && ((eqb (i .a) 0 && ltb 255 (i .b)) || (eqb (i .a) 1 && (ltb 3 (i .b) || ltb 65535 (i .c)))))
+
+-- a local not below L, a callee without signature, an indexed access of 0 slots without layout
+unfoldable pub misplaced : ℕ → Instr → Scan → Bool
+misplaced m i t =
+    (eqb m local && leb (t .locals) (i .a))
+    || (eqb m callee && leb (t .signatures) (i .a))
+    || (eqb m slots && eqb (i .b) 0 && eqb (t .layout) 0)
+
+unfoldable pub unfitting : Fit → Instr → Bool
+unfitting f i =
+    ltb (i .taken) (f .takenLeast) || ltb (f .takenMost) (i .taken) || ltb (i .given) (f .givenLeast) || ltb (f .givenMost) (i .given)
+
+unfoldable pub instrFault : Bool → ℕ → Instr → Scan → ℕ
+instrFault due len i t =
+    lowest
+    (not due || not (eqb len 15) || ltb 65 (i .op) || senseless (fitOf (i .op) .meaning) i)
+    (ltb 4095 (t .instrs) || ltb 64 (i .taken) || ltb 4 (i .given) || tooLarge (fitOf (i .op) .meaning) i)
+    (misplaced (fitOf (i .op) .meaning) i t)
+    (unfitting (fitOf (i .op)) i)
+
+unfoldable pub siteFault : List ℕ → ℕ → Bool → ℕ → ℕ
+siteFault s p due len =
+    lowest (not due || not (eqb len 14) || not (shapeFine (shapeOf s (p + 3))) || not (shapeFine (shapeOf s (p + 10)))) false false false
+
+-- tags 5 to 8, one of them more than there may be
+unfoldable pub tableFault : List ℕ → ℕ → ℕ → Bool → ℕ → ℕ → ℕ
+tableFault s p tag due len count =
+    cond (eqb tag 5)
+    (lowest (not due || not (eqb len 8) || not (shapeFine (shapeOf s (p + 3))) || ltb 1 (at8 s (p + 10))) (ltb 255 count) false false)
+    (cond (eqb tag 6) (lowest (not due || not (eqb len 1)) (ltb 1023 count) false false)
+    (cond (eqb tag 7) (lowest (not due || not (eqb len 6)) (ltb 1023 count) false false)
+    (lowest (not due || not (eqb len 2) || ltb 11 (at8 s (p + 3)) || ltb 1 (at8 s (p + 4))) (ltb 1023 count) false false)))
+
+-- ---- the walk
+abbrev pub orStop : ℕ → Refusal → Scan → Step
+orStop n r t = cond (eqb n 0) (Go t) (Stop r)
+
+-- 1 and 2 name nothing, 3 and 4 what the field is part of
+unfoldable pub inField : ℕ → ℕ → ℕ → Refusal
+inField n c i = cond (ltb n 3) (nowhere n 0) (record { number = n; chunk = c; instruction = i; steps = 0 })
+
+unfoldable pub headerStep : List ℕ → ℕ → Scan → Step
+headerStep s p t =
+    let h = headerOf s p in
+    let n = headerFault (eqb (t .place) 0) (lenAt s p) h in
+    orStop n (nowhere n 0)
+    (record {
+      place = 1;
+      chunks = h .chunks;
+      signatures = h .signatures;
+      layout = h .layout;
+      seen = 0;
+      locals = 0;
+      stack = 0;
+      instrs = 0;
+      count = 0;
+      cells = 4 + h .slots;
+    })
+
+unfoldable pub chunkStep : List ℕ → ℕ → Scan → Step
+chunkStep s p t =
+    let h = chunkOf s p in
+    let signed = ltb (t .seen) (t .signatures) in
+    let n = chunkFault s p (ltb 0 (t .place) && ltb (t .place) 5 && ltb (t .seen) (t .chunks)) (lenAt s p) signed h in
+    orStop n (inField n (t .seen) 65535)
+    (record {
+      place = 2;
+      chunks = t .chunks;
+      signatures = t .signatures;
+      layout = t .layout;
+      seen = t .seen + 1;
+      locals = h .locals;
+      stack = h .stack;
+      instrs = 0;
+      count = t .count;
+      cells = t .cells + signedParams s p signed + 2;
+    })
+
+unfoldable pub instrStep : List ℕ → ℕ → Scan → Step
+instrStep s p t =
+    let n = instrFault (ltb 1 (t .place) && ltb (t .place) 5) (lenAt s p) (instrOf s p) t in
+    orStop n (inField n (t .seen - 1) (t .instrs))
+    (record {
+      place = 3;
+      chunks = t .chunks;
+      signatures = t .signatures;
+      layout = t .layout;
+      seen = t .seen;
+      locals = t .locals;
+      stack = t .stack;
+      instrs = t .instrs + 1;
+      count = t .count;
+      cells = t .cells + t .locals + t .stack + 6;
+    })
+
+abbrev pub placed : ℕ → ℕ → Scan → Scan
+placed tag count t =
+    record {
+      place = tag;
+      chunks = t .chunks;
+      signatures = t .signatures;
+      layout = t .layout;
+      seen = t .seen;
+      locals = t .locals;
+      stack = t .stack;
+      instrs = t .instrs;
+      count = count;
+      cells = t .cells;
+    }
+
+unfoldable pub siteStep : List ℕ → ℕ → Scan → Step
+siteStep s p t =
+    let n = siteFault s p (eqb (t .place) 3) (lenAt s p) in
+    orStop n (nowhere n 0) (placed 4 (t .count) t)
+
+-- the fields of this tag so far
+unfoldable pub soFar : Scan → ℕ → ℕ
+soFar t tag = cond (eqb (t .place) tag) (t .count) 0
+
+unfoldable pub tableStep : List ℕ → ℕ → ℕ → Scan → Step
+tableStep s p tag t =
+    let n = tableFault s p tag (ltb 0 (t .place) && leb (t .place) tag && (eqb tag 5 || eqb (t .layout) 1)) (lenAt s p) (soFar t tag) in
+    orStop n (nowhere n 0) (placed tag (soFar t tag + 1) t)
+
+-- a field that doesn't fit the description is 1, its contents are not looked at
+unfoldable pub fieldStep : List ℕ → ℕ → Scan → Step
+fieldStep s p t =
+    cond (ltb (length s) (nextAt s p)) (Stop (nowhere 1 0))
+    (cond (eqb (tagAt s p) 1) (headerStep s p t)
+    (cond (eqb (tagAt s p) 2) (chunkStep s p t)
+    (cond (eqb (tagAt s p) 3) (instrStep s p t)
+    (cond (eqb (tagAt s p) 4) (siteStep s p t)
+    (cond (ltb 4 (tagAt s p) && ltb (tagAt s p) 9) (tableStep s p (tagAt s p) t)
+    (Stop (nowhere 1 0)))))))
+
+-- ---- the late looks
+-- the parameter shapes of each chunk with a signature
+unfoldable pub parameters : List ℕ → ℕ → List ℕ → List ℕ
+parameters s left [] = []
+parameters s left (p ∷ ps) = signedParams s p (ltb 0 left) ∷ parameters s (left - 1) ps
+
+-- a call taking more than its callee's parameters, a `Yield` without site
+unfoldable pub lateFault : List ℕ → List ℕ → ℕ → Bool
+lateFault s params p =
+    (eqb (instrOf s p .op) 30 && ltb (getD params (instrOf s p .a) 0) (instrOf s p .taken))
+    || (eqb (instrOf s p .op) 32 && not (hasSite s p))
+
+-- the chunks and the instructions of the chunk so far
+unfoldable pub lateLook : List ℕ → List ℕ → ℕ → ℕ → List ℕ → Refusal
+lateLook s params c i [] = nowhere 0 0
+lateLook s params c i (p ∷ ps) =
+    cond (eqb (tagAt s p) 2) (lateLook s params (c + 1) 0 ps)
+    (cond (eqb (tagAt s p) 3)
+    (cond (lateFault s params p) (record { number = 3; chunk = c - 1; instruction = i; steps = 0 }) (lateLook s params c (i + 1) ps))
+    (lateLook s params c i ps))
+
+-- ---- the whole
+unfoldable pub afterLook : Refusal → ℕ → Form
+afterLook r w = cond (eqb (r .number) 0) (Fine w) (Refused r)
+
+-- no header, or a chunk missing, is 1
+unfoldable pub finished : List ℕ → Scan → Form
+finished s t =
+    cond (eqb (t .place) 0 || ltb (t .seen) (t .chunks)) (Refused (nowhere 1 0))
+    (afterLook (lateLook s (parameters s (t .signatures) (ofTag 2 s (fieldsFrom s 0))) 0 0 (fieldsFrom s 0)) (16 * t .cells))
+
+unfoldable pub onStep : Step → (Scan → Form) → Form
+onStep (Go t) k = k t
+onStep (Stop r) k = Refused r
+
+unfoldable pub scanFrom : List ℕ → List ℕ → Scan → Form
+scanFrom s [] t = finished s t
+scanFrom s (p ∷ ps) t = onStep (fieldStep s p t) (λ u. scanFrom s ps u)
+
+abbrev pub unscanned : Scan
+unscanned =
+    record { place = 0; chunks = 0; signatures = 0; layout = 0; seen = 0; locals = 0; stack = 0; instrs = 0; count = 0; cells = 0 }
+
+-- W of a description of good form, or the refusal; its length is looked at first
+unfoldable pub formOf : List ℕ → Form
+formOf s = cond (ltb 1048576 (length s)) (Refused (nowhere 2 0)) (scanFrom s (fieldsFrom s 0) unscanned)

@@ -1,0 +1,13 @@
+pub mod Res
+pub mod Machine
+pub mod Module
+pub mod State
+pub mod Data
+pub mod Outputs
+pub mod Wants
+pub mod Ways
+pub mod Leaves
+pub mod Start
+pub mod Form
+pub mod Report
+pub mod Call

@@ -1,0 +1,174 @@
+// The fields of a description, read at a place. Every read is total.
+ghost use mathlib.Core.Path.{_≡_};
+ghost use Prim.Native.Nat.{_+_, _<_, _^_};
+ghost use Rattle.description.specs.Fields.{tagAt, lenAt, nextAt, headerOf, chunkOf, tagsAt, paramsAt, paramsOf, paramOf, resultOf, shapeOf, instrOf, hasSite, yieldedOf, replyOf};
+use le::u8_at;
+use le::u16_at;
+use le::u32_at;
+use widths::Shape;
+
+// Field 1.
+pub struct Header {
+    pub float: u8,
+    pub entry: u16,
+    pub chunks: u16,
+    pub signatures: u16,
+    pub layout: u8,
+    pub slots: u16,
+    pub owns: u8,
+}
+
+// The fixed part of field 2.
+pub struct ChunkHead {
+    pub reachable: u8,
+    pub block: u8,
+    pub locals: u16,
+    pub stack: u16,
+    pub arity: u8,
+    pub tags: u8,
+}
+
+// Field 3.
+pub struct Instr {
+    pub op: u8,
+    pub taken: u8,
+    pub given: u8,
+    pub a: u32,
+    pub b: u32,
+    pub c: u32,
+}
+
+// A field's tag and length, and the place after it.
+pub fn tag_at(s: &[u8], p: usize) -> u8
+    requires { ⌜ p < 2 ^ 62 ⌝ }
+    ensures { λ r. ⌜ r ≡ tagAt (now (s .entry)) p ⌝ }
+{
+    u8_at(s, p)
+}
+
+pub fn len_at(s: &[u8], p: usize) -> u16
+    requires { ⌜ p < 2 ^ 62 ⌝ }
+    ensures { λ r. ⌜ r ≡ lenAt (now (s .entry)) p ⌝ }
+{
+    u16_at(s, p + 1)
+}
+
+pub fn next_at(s: &[u8], p: usize) -> usize
+    requires { ⌜ p < 2 ^ 62 ⌝ }
+    ensures { λ r. ⌜ (r ≡ nextAt (now (s .entry)) p) × (p < r) × (r < p + 65539) ⌝ }
+{
+    p + 3 + (len_at(s, p) as usize)
+}
+
+pub fn header_at(s: &[u8], p: usize) -> Header
+    requires { ⌜ p < 2 ^ 62 ⌝ }
+    ensures { λ r. ⌜ r ≡ headerOf (now (s .entry)) p ⌝ }
+{
+    Header {
+        float: u8_at(s, p + 3),
+        entry: u16_at(s, p + 4),
+        chunks: u16_at(s, p + 6),
+        signatures: u16_at(s, p + 8),
+        layout: u8_at(s, p + 10),
+        slots: u16_at(s, p + 11),
+        owns: u8_at(s, p + 13),
+    }
+}
+
+pub fn chunk_at(s: &[u8], p: usize) -> ChunkHead
+    requires { ⌜ p < 2 ^ 62 ⌝ }
+    ensures { λ r. ⌜ r ≡ chunkOf (now (s .entry)) p ⌝ }
+{
+    ChunkHead {
+        reachable: u8_at(s, p + 3),
+        block: u8_at(s, p + 4),
+        locals: u16_at(s, p + 5),
+        stack: u16_at(s, p + 7),
+        arity: u8_at(s, p + 9),
+        tags: u8_at(s, p + 10),
+    }
+}
+
+// Where the type tags, the number of parameter shapes and the shapes of the chunk field at p stand.
+pub fn tags_at(p: usize) -> usize
+    requires { ⌜ p < 2 ^ 62 ⌝ }
+    ensures { λ r. ⌜ r ≡ tagsAt p ⌝ }
+{
+    p + 11
+}
+
+pub fn params_at(s: &[u8], p: usize) -> usize
+    requires { ⌜ p < 2 ^ 62 ⌝ }
+    ensures { λ r. ⌜ (r ≡ paramsAt (now (s .entry)) p) × (r < p + 267) ⌝ }
+{
+    p + 11 + (u8_at(s, p + 10) as usize)
+}
+
+pub fn params_of(s: &[u8], p: usize) -> u8
+    requires { ⌜ p < 2 ^ 62 ⌝ }
+    ensures { λ r. ⌜ r ≡ paramsOf (now (s .entry)) p ⌝ }
+{
+    u8_at(s, params_at(s, p))
+}
+
+pub fn param_at(s: &[u8], p: usize, i: usize) -> Shape
+    requires { ⌜ (p < 2 ^ 62) × (i < 2 ^ 32) ⌝ }
+    ensures { λ r. ⌜ r ≡ paramOf (now (s .entry)) p i ⌝ }
+{
+    shape_at(s, params_at(s, p) + 1 + 7 * i)
+}
+
+pub fn declared_result(s: &[u8], p: usize) -> Shape
+    requires { ⌜ p < 2 ^ 62 ⌝ }
+    ensures { λ r. ⌜ r ≡ resultOf (now (s .entry)) p ⌝ }
+{
+    param_at(s, p, params_of(s, p) as usize)
+}
+
+pub fn shape_at(s: &[u8], q: usize) -> Shape
+    requires { ⌜ q < 2 ^ 63 ⌝ }
+    ensures { λ r. ⌜ r ≡ shapeOf (now (s .entry)) q ⌝ }
+{
+    Shape {
+        tag: u8_at(s, q),
+        kind: u8_at(s, q + 1),
+        width: u8_at(s, q + 2),
+        size: u32_at(s, q + 3),
+    }
+}
+
+pub fn instr_at(s: &[u8], p: usize) -> Instr
+    requires { ⌜ p < 2 ^ 62 ⌝ }
+    ensures { λ r. ⌜ r ≡ instrOf (now (s .entry)) p ⌝ }
+{
+    Instr {
+        op: u8_at(s, p + 3),
+        taken: u8_at(s, p + 4),
+        given: u8_at(s, p + 5),
+        a: u32_at(s, p + 6),
+        b: u32_at(s, p + 10),
+        c: u32_at(s, p + 14),
+    }
+}
+
+// The dialogue site of the instruction at p, if it has one: the next field, with tag 4.
+pub fn has_site(s: &[u8], p: usize) -> bool
+    requires { ⌜ p < 2 ^ 61 ⌝ }
+    ensures { λ r. ⌜ r ≡ hasSite (now (s .entry)) p ⌝ }
+{
+    tag_at(s, next_at(s, p)) == 4
+}
+
+pub fn site_yielded(s: &[u8], p: usize) -> Shape
+    requires { ⌜ p < 2 ^ 61 ⌝ }
+    ensures { λ r. ⌜ r ≡ yieldedOf (now (s .entry)) p ⌝ }
+{
+    shape_at(s, next_at(s, p) + 3)
+}
+
+pub fn site_reply(s: &[u8], p: usize) -> Shape
+    requires { ⌜ p < 2 ^ 61 ⌝ }
+    ensures { λ r. ⌜ r ≡ replyOf (now (s .entry)) p ⌝ }
+{
+    shape_at(s, next_at(s, p) + 10)
+}

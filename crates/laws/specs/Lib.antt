@@ -1,0 +1,8 @@
+pub mod Join
+pub mod Flat
+pub mod Lists
+pub mod Masks
+pub mod Extents
+pub mod Flows
+pub mod Cells
+pub mod Marked

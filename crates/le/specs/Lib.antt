@@ -1,0 +1,3 @@
+pub mod Le
+pub mod Wrote
+pub mod Laws

@@ -1,0 +1,1 @@
+// A report read back from its bytes: see specs/.

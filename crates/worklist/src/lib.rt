@@ -1,0 +1,1 @@
+// Theorems about the worklist machine: see specs/.

@@ -1,0 +1,38 @@
+//! Around types.rs as it is published: the module it expects to live in.
+
+#[allow(dead_code)]
+#[path = "../target/woven/verbatim.rs"]
+mod types;
+
+#[derive(Debug, Clone, Copy, PartialEq, Eq)]
+pub(crate) enum NativeBodyReturn {
+    Borrowed,
+    Snapshot,
+}
+
+pub(crate) mod dialogue {
+    use keleusma::bytecode::WireShape;
+    use std::collections::BTreeMap;
+
+    #[derive(Clone, Copy)]
+    pub(crate) struct Contract {
+        pub yielded: WireShape,
+        pub reply: WireShape,
+    }
+    /// The parts of the dialogue plan that types.rs reads.
+    #[derive(Clone)]
+    pub(crate) struct Plan {
+        pub reachable: Vec<bool>,
+        pub owns_bodies: bool,
+        pub sites: Vec<BTreeMap<usize, ((), Contract)>>,
+        pub native_body_returns: BTreeMap<u16, super::NativeBodyReturn>,
+    }
+}
+
+pub(crate) fn verbatim(
+    m: &keleusma::bytecode::Module,
+    entry: usize,
+    plan: dialogue::Plan,
+) -> Result<crate::found::Found, crate::LowerError> {
+    types::check(m, entry, plan).map(|analysis| analysis.found())
+}

@@ -1,0 +1,91 @@
+//! What generated descriptions reach: instructions and outcomes, counted.
+
+use crate::model::{Description, split_field};
+use crate::ops::NAMES;
+use crate::run::Outcome;
+
+#[derive(Debug, Clone)]
+pub struct Coverage {
+    pub descriptions: u64,
+    /// Outcomes by refusal number, 0 for accepted.
+    pub outcomes: [u64; 19],
+    /// Descriptions that have the instruction; accepted ones that have it;
+    /// accepted ones with a record of it.
+    pub present: [u64; 66],
+    pub accepted: [u64; 66],
+    pub recorded: [u64; 66],
+}
+
+impl Default for Coverage {
+    fn default() -> Self {
+        Coverage { descriptions: 0, outcomes: [0; 19], present: [0; 66], accepted: [0; 66], recorded: [0; 66] }
+    }
+}
+
+fn count(counts: &mut [u64; 66], set: u128) {
+    for (op, count) in counts.iter_mut().enumerate() {
+        *count += u64::from(set >> op & 1 == 1);
+    }
+}
+
+impl Coverage {
+    pub fn add(&mut self, bytes: &[u8], outcome: &Outcome) {
+        self.descriptions += 1;
+        self.outcomes[usize::from(outcome.number())] += 1;
+        let Some(d) = Description::decode(bytes) else { return };
+        let mut present = 0u128;
+        for i in d.chunks.iter().flat_map(|chunk| &chunk.code) {
+            if i.op < 66 {
+                present |= 1 << i.op;
+            }
+        }
+        count(&mut self.present, present);
+        let Outcome::Accepted { report, .. } = outcome else { return };
+        count(&mut self.accepted, present);
+        let mut recorded = 0u128;
+        let mut rest = &report[..];
+        while let Some((tag, contents, after)) = split_field(rest) {
+            rest = after;
+            if tag == 19 {
+                let place = |at: usize| usize::from(u16::from_le_bytes([contents[at], contents[at + 1]]));
+                recorded |= 1 << d.chunks[place(0)].code[place(2)].op;
+            }
+        }
+        count(&mut self.recorded, recorded);
+    }
+
+    pub fn join(&mut self, other: &Coverage) {
+        self.descriptions += other.descriptions;
+        let add = |a: &mut [u64], b: &[u64]| a.iter_mut().zip(b).for_each(|(a, b)| *a += b);
+        add(&mut self.outcomes, &other.outcomes);
+        add(&mut self.present, &other.present);
+        add(&mut self.accepted, &other.accepted);
+        add(&mut self.recorded, &other.recorded);
+    }
+
+    /// Two Markdown tables.
+    pub fn table(&self) -> String {
+        let mut out = String::from("| outcome | descriptions |\n|---|---|\n");
+        for (number, count) in self.outcomes.iter().enumerate() {
+            let name = if number == 0 { "accepted".to_string() } else { format!("refused {number}") };
+            out += &format!("| {name} | {count} |\n");
+        }
+        out += &format!("| all | {} |\n\n", self.descriptions);
+        out += "| instruction | in descriptions | in accepted ones | recorded in accepted ones |\n|---|---|---|---|\n";
+        for op in 0..66 {
+            let (present, accepted, recorded) = (self.present[op], self.accepted[op], self.recorded[op]);
+            out += &format!("| {} | {present} | {accepted} | {recorded} |\n", NAMES[op]);
+        }
+        out
+    }
+}
+
+/// Generates and runs so many descriptions.
+pub fn over(count: u64, run: u64) -> Coverage {
+    let mut coverage = Coverage::default();
+    for number in 0..count {
+        let (one, measured) = super::with_measure(super::seed_of(run, number));
+        coverage.add(&one.bytes, &super::outcome(&one, &measured));
+    }
+    coverage
+}

@@ -1,0 +1,64 @@
+//! The oracle: types.rs, run on a description's bytes, answers as document 01
+//! says. See README.md.
+
+// Names that types.rs looks for at the root of its crate.
+mod coroutine;
+mod found;
+mod probe;
+#[path = "probed.rs"]
+mod probed;
+
+pub mod form;
+pub mod generate;
+pub mod lookup;
+pub mod model;
+pub mod module;
+pub mod ops;
+pub mod pool;
+pub mod report;
+pub mod run;
+pub mod text;
+
+#[derive(Debug, Clone, Copy, PartialEq, Eq)]
+pub(crate) enum Width {
+    Unknown,
+    Scalar(u32),
+    Body(u32),
+}
+
+#[derive(Debug, PartialEq, Eq)]
+pub(crate) enum LowerError {
+    UnsupportedShape(String),
+    /// A probe's refusal: 7, 8 or 18.
+    Probe { number: u8, chunk: usize, instruction: usize },
+}
+
+/// What `operand_kind` of types.rs answers. `check` never asks.
+#[allow(dead_code)]
+#[derive(Debug, Clone, Copy, PartialEq, Eq)]
+pub(crate) enum OperandKind {
+    Float,
+    Fixed,
+    Int,
+    Unknown,
+}
+
+pub(crate) fn width_of_declared_shape(
+    shape: Option<&keleusma::bytecode::WireShape>,
+    _float_bytes: u32,
+) -> Width {
+    use keleusma::told::ToldWidth;
+    match keleusma::told::width(shape.expect("a shape")) {
+        ToldWidth::Unknown => Width::Unknown,
+        ToldWidth::Scalar(size) => Width::Scalar(size),
+        ToldWidth::Body(size) => Width::Body(size),
+    }
+}
+
+pub(crate) mod region {
+    use keleusma::bytecode::{Chunk, Op};
+
+    pub(crate) fn flat_site_size(chunk: &Chunk, op: &Op) -> Option<u32> {
+        chunk.told[keleusma::told::place(op, chunk)].site_size
+    }
+}

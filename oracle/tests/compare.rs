@@ -1,0 +1,68 @@
+//! The comparison finds nothing in a port that asks the oracle, and every
+//! fault that is put into it.
+
+use std::path::Path;
+use std::process::Command;
+use std::sync::OnceLock;
+
+/// The driver, built once with the stand-in for a port.
+fn driver() -> &'static str {
+    static DRIVER: OnceLock<String> = OnceLock::new();
+    DRIVER.get_or_init(|| {
+        let folder = std::env::var("ORACLE_DIR").expect("ORACLE_DIR");
+        let out = format!("{folder}/target/stub");
+        std::fs::create_dir_all(&out).expect("a folder");
+        let rustc = |args: &[&str]| {
+            let mut command = Command::new("rustc");
+            command.args(["--edition", "2024", "-O", "-L", "target", "--extern", "oracle", "--out-dir", &out]);
+            let status = command.args(args).current_dir(&folder).status().expect("rustc runs");
+            assert!(status.success());
+        };
+        rustc(&["--crate-type", "rlib", "--crate-name", "facts", "tests/port/facts.rs"]);
+        let library = format!("facts={out}/libfacts.rlib");
+        rustc(&["--crate-name", "driver", "--extern", &library, "src/compare.rs"]);
+        let driver = format!("{out}/driver");
+        assert!(Path::new(&driver).exists());
+        driver
+    })
+}
+
+/// Whether the run ended well, and its output.
+fn compared(count: &str, wrong: &str) -> (bool, String) {
+    let out = Command::new(driver()).args([count, "2"]).env("WRONG", wrong).output().expect("it runs");
+    (out.status.success(), String::from_utf8(out.stdout).expect("text"))
+}
+
+#[test]
+fn nothing_differs_from_itself() {
+    let (good, output) = compared("3000", "");
+    assert!(good);
+    assert_eq!(output.lines().last(), Some("3000 compared, 0 differences"));
+    assert!(output.contains("| all | 3000 |"));
+    assert!(output.contains("| CallExternalNative | "));
+}
+
+#[test]
+fn every_fault_is_noticed() {
+    let faults = [
+        "last byte", "past the report", "word left", "panic", "length", "steps", "workspace cleared",
+        "report touched", "number", "chunk", "instruction", "refusal's steps", "empty part", "record",
+    ];
+    for fault in faults {
+        let (good, output) = compared("20000", fault);
+        assert!(!good, "{fault}");
+        let last = output.lines().last().unwrap_or("");
+        assert!(last.ends_with(" compared, 10 differences"), "{fault}: {last}");
+        assert_eq!(output.lines().filter(|line| line.starts_with("---- seed ")).count(), 10, "{fault}");
+        assert_eq!(output.contains("panic: "), fault == "panic", "{fault}");
+    }
+}
+
+#[test]
+fn a_difference_is_shown_small() {
+    let (_, output) = compared("2000", "refusal's steps");
+    let small = output.split("smaller, within ample bounds:").nth(1).expect("a smaller one");
+    let small: Vec<&str> = small.lines().take_while(|line| !line.starts_with("----")).collect();
+    assert!(small.len() < 25, "{}", small.join("\n"));
+    assert!(small.iter().any(|line| line.trim_start().starts_with("NewComposite")));
+}

@@ -1,0 +1,67 @@
+//! A port that asks the oracle. The variable WRONG makes it wrong in one way,
+//! to see that the comparison notices.
+
+pub struct Refusal {
+    pub number: u8,
+    pub chunk: u16,
+    pub instruction: u16,
+    pub steps: u32,
+}
+pub enum Answer {
+    Accepted { length: usize, steps: u32 },
+    Refused(Refusal),
+}
+
+fn wrong(how: &str) -> bool {
+    static WRONG: std::sync::OnceLock<String> = std::sync::OnceLock::new();
+    WRONG.get_or_init(|| std::env::var("WRONG").unwrap_or_default()) == how
+}
+
+pub fn check(description: &[u8], workspace: &mut [u32], report: &mut [u8], limit: u32) -> Answer {
+    match oracle::run::check(description, workspace.len() as u64, report.len(), limit) {
+        oracle::run::Outcome::Accepted { report: bytes, steps } => {
+            let length = bytes.len();
+            report[..length].copy_from_slice(&bytes);
+            workspace.fill(0);
+            if wrong("last byte") {
+                report[length - 1] ^= 1;
+            }
+            if wrong("past the report") && length < report.len() {
+                report[length] ^= 1;
+            }
+            if wrong("word left") {
+                workspace[0] = 1;
+            }
+            if wrong("panic") && length % 7 == 0 {
+                panic!("seven");
+            }
+            let length = length + usize::from(wrong("length"));
+            Answer::Accepted { length, steps: steps + u32::from(wrong("steps")) }
+        }
+        oracle::run::Outcome::Refused(r) => {
+            if r.number > 5 || wrong("workspace cleared") {
+                workspace.fill(0);
+            }
+            if wrong("report touched") && !report.is_empty() {
+                report[0] ^= 1;
+            }
+            Answer::Refused(Refusal {
+                number: if wrong("number") && r.number == 16 { 17 } else { r.number },
+                chunk: r.chunk & if wrong("chunk") { 255 } else { 65535 },
+                instruction: r.instruction ^ u16::from(wrong("instruction") && r.number == 8),
+                steps: r.steps + u32::from(wrong("refusal's steps") && r.number == 15),
+            })
+        }
+    }
+}
+
+pub fn lookup(report: &[u8], chunk: u16, instruction: u16) -> &[u8] {
+    let part = oracle::lookup::lookup(report, chunk, instruction);
+    if part.is_empty() && wrong("empty part") {
+        return &report[..0];
+    }
+    if !part.is_empty() && wrong("record") {
+        return &part[3..];
+    }
+    part
+}

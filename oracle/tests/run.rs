@@ -1,0 +1,306 @@
+//! The examples' answers, one description for each refusal, and the bounds of
+//! workspace, limit and report buffer.
+
+use oracle::model::*;
+use oracle::run::{Outcome, Refusal, check, measure};
+use oracle::text;
+
+const NO: u16 = 65535;
+
+fn example(name: &str) -> Description {
+    let folder = std::env::var("ORACLE_DIR").expect("ORACLE_DIR");
+    let path = format!("{folder}/examples/{name}.txt");
+    text::parse(&std::fs::read_to_string(&path).expect(&path)).expect("the example parses")
+}
+fn ample(d: &Description) -> Outcome {
+    check(&d.encode(), 16384, 16384, 1_000_000)
+}
+fn refused(number: u8, chunk: u16, instruction: u16, steps: u32) -> Outcome {
+    Outcome::Refused(Refusal { number, chunk, instruction, steps })
+}
+fn parsed(text: &str) -> Description {
+    text::parse(text).expect("the text parses")
+}
+fn listing(name: &str) -> String {
+    let folder = std::env::var("ORACLE_DIR").expect("ORACLE_DIR");
+    let out = std::process::Command::new(format!("{folder}/target/oracle"))
+        .args(["check", &format!("{folder}/examples/{name}.txt")])
+        .output()
+        .expect("the program runs");
+    String::from_utf8(out.stdout).expect("text")
+}
+
+#[test]
+fn worked_cases() {
+    let whole = "accepted 6 reply 0\n0 0 stack - locals -\n0 1 stack 2 locals -\n0 2 stack 4096 locals -\n";
+    assert_eq!(listing("worked"), whole);
+    assert_eq!(listing("worked-kind-3"), "refused 13 0 2 6\n");
+}
+
+#[test]
+fn the_worked_report_byte_by_byte() {
+    let Outcome::Accepted { report, steps } = ample(&example("worked")) else { panic!("accepted") };
+    assert_eq!(steps, 6);
+    let cell = |mask: u16, width: u8, size: u8| {
+        let mut out = mask.to_le_bytes().to_vec();
+        out.extend([width, size, 0, 0, 0]);
+        out.extend([0; 36]);
+        out.extend([0, 255, 255, 255, 255, 0]);
+        out
+    };
+    let mut expected = vec![16, 4, 0, 0, 0, 0, 0];
+    expected.extend([17, 51, 0, 0, 0]);
+    expected.extend(cell(4098, 0, 0));
+    let record = |ip: u8, stack: &[u16], outputs: &[u16]| {
+        let length = 12 + 49 * stack.len() + 51 * outputs.len();
+        let mut out = vec![19, length as u8, 0, 0, 0, ip, 0, stack.len() as u8, 0, 0, 0, outputs.len() as u8, 0, 0, 0];
+        for mask in stack {
+            out.extend(cell(*mask, 1, 1));
+        }
+        for mask in outputs {
+            out.extend([0, 0]);
+            out.extend(cell(*mask, 1, 1));
+        }
+        out
+    };
+    expected.extend(record(0, &[], &[2]));
+    expected.extend(record(1, &[2], &[4096]));
+    expected.extend(record(2, &[4096], &[]));
+    assert_eq!(report, expected);
+}
+
+/// A cell's bytes: mask, width, size, four extents, owned, origin, receiver, when.
+type Extent = (u8, u32, u32);
+fn cell(mask: u16, width: (u8, u32), extents: [Extent; 4], owned: u8, origin: u16, predicate: (u16, u8)) -> Vec<u8> {
+    let mut out = mask.to_le_bytes().to_vec();
+    out.push(width.0);
+    out.extend(width.1.to_le_bytes());
+    for (form, min, max) in extents {
+        out.push(form);
+        out.extend(min.to_le_bytes());
+        out.extend(max.to_le_bytes());
+    }
+    out.push(owned);
+    out.extend(origin.to_le_bytes());
+    out.extend(predicate.0.to_le_bytes());
+    out.push(predicate.1);
+    out
+}
+fn record(name: &str, chunk: u16, instruction: u16) -> Vec<u8> {
+    let Outcome::Accepted { report, .. } = ample(&example(name)) else { panic!("{name} is accepted") };
+    oracle::lookup::lookup(&report, chunk, instruction).to_vec()
+}
+
+#[test]
+fn every_part_of_a_cell() {
+    let all = [(1, 16, 16); 4];
+    let none = [(0, 0, 0); 4];
+    // After IsEnum: the receiver with its origin, the test with its predicate.
+    let mut expected = vec![19, 12 + 3 * 49, 0, 0, 0, 2, 0, 2, 0, 1, 0, 0, 0, 0, 0];
+    expected.extend(cell(3840, (2, 16), all, 0, 0, (NO, 0)));
+    expected.extend(cell(4098, (1, 1), none, 0, NO, (0, 1)));
+    expected.extend(cell(3840, (2, 16), all, 0, NO, (NO, 0)));
+    assert_eq!(record("narrowed", 0, 2), expected);
+    // On the way where it holds both are narrowed; the other extents stay.
+    let mut expected = vec![19, 12 + 2 * 49, 0, 0, 0, 3, 0, 1, 0, 1, 0, 0, 0, 0, 0];
+    expected.extend(cell(2048, (2, 16), all, 0, 0, (NO, 0)));
+    expected.extend(cell(2048, (2, 16), all, 0, NO, (NO, 0)));
+    assert_eq!(record("narrowed", 0, 3), expected);
+    // A reply's body is owned; its field read gives an output.
+    let mut expected = vec![19, 12 + 49 + 51, 0, 0, 0, 2, 0, 1, 0, 0, 0, 1, 0, 0, 0];
+    expected.extend(cell(256, (2, 16), [(1, 16, 16), (0, 0, 0), (0, 0, 0), (0, 0, 0)], 1, NO, (NO, 0)));
+    expected.extend([0, 0]);
+    expected.extend(cell(8, (1, 8), none, 0, NO, (NO, 0)));
+    assert_eq!(record("yield", 0, 2), expected);
+}
+
+#[test]
+fn guards() {
+    // Both slots' kinds are asked of the value, at stack place 0.
+    let both = record("guard-0", 0, 2);
+    assert_eq!(&both[3..15], &[0, 0, 2, 0, 2, 0, 1, 0, 1, 0, 1, 0]);
+    assert_eq!(&both[both.len() - 4..], &[0, 0, 0, 0]);
+    // One slot only: the guard is its kind.
+    let mut d = example("guard-0");
+    d.chunks[0].code[2].b = 1;
+    let Outcome::Accepted { report, .. } = ample(&d) else { panic!("accepted") };
+    let one = oracle::lookup::lookup(&report, 0, 2);
+    assert_eq!(&one[one.len() - 4..], &[0, 0, 0, 1]);
+    // A value that has the kind wants no guard.
+    d.chunks[0].signature.as_mut().unwrap().params[0].kind = 0;
+    let Outcome::Accepted { report, .. } = ample(&d) else { panic!("accepted") };
+    assert_eq!(oracle::lookup::lookup(&report, 0, 2)[13..15], [0, 0]);
+}
+
+#[test]
+fn words_of_a_workspace() {
+    // 16 x (3 x (0+1+6) + 0 + 2, 4 x (1+2+6) + 1 + 2, and 4).
+    assert_eq!(example("call").least_words(), 16 * (21 + 2 + 36 + 3 + 4));
+    // Slots count; so does an unreachable chunk.
+    assert_eq!(example("private").least_words(), 16 * (6 * 8 + 2 + 2 + 4));
+    let mut d = example("call");
+    d.chunks[1].reachable = 0;
+    assert_eq!(d.least_words(), example("call").least_words());
+    // A chunk past the signatures has no parameters.
+    (d.header.signatures, d.chunks[1].signature) = (1, None);
+    assert_eq!(d.least_words(), example("call").least_words() - 16);
+}
+
+#[test]
+fn examples() {
+    let accepted = [
+        ("call", 21), ("composites", 26), ("cut", 6), ("guard-0", 8), ("loop", 36), ("narrowed", 20), ("native", 12),
+        ("placements", 27), ("private", 18), ("recursion", 36), ("stream", 24), ("yield", 8),
+    ];
+    for (name, steps) in accepted {
+        let outcome = ample(&example(name));
+        assert!(matches!(outcome, Outcome::Accepted { steps: s, .. } if s == steps), "{name}: {outcome:?}");
+    }
+    assert!(listing("cut").ends_with("inspection 0 1\nbranch 0 2 0\n"));
+    assert!(listing("narrowed").starts_with("accepted 20 reply 16\n"));
+}
+
+#[test]
+fn one_for_each_refusal_from_9_on() {
+    let with = |change: fn(&mut Description)| {
+        let mut d = example("call");
+        change(&mut d);
+        ample(&d)
+    };
+    assert_eq!(with(|d| d.chunks[1].param_count = 0), refused(9, 1, NO, 0));
+    assert_eq!(with(|d| d.chunks[1].code.clear()), refused(9, 1, NO, 0));
+    assert_eq!(
+        with(|d| {
+            d.header.signatures = 1;
+            d.chunks[1].signature = None;
+            d.chunks[0].code.remove(1);
+        }),
+        refused(9, 1, NO, 0)
+    );
+    assert_eq!(with(|d| d.chunks[1].tags[0] = 1), refused(10, 1, NO, 0));
+    // 9 and 10 by chunk: the first chunk's 10 before the second's 9.
+    assert_eq!(
+        with(|d| {
+            d.chunks[1].tags[0] = 1;
+            let third = Chunk { param_count: 3, ..d.chunks[1].clone() };
+            d.chunks.push(third);
+            (d.header.chunks, d.header.signatures) = (3, 3);
+        }),
+        refused(10, 1, NO, 0)
+    );
+    // An unreachable chunk is not looked at.
+    assert!(matches!(
+        with(|d| {
+            let third = Chunk { param_count: 3, reachable: 0, ..d.chunks[1].clone() };
+            d.chunks.push(third);
+            (d.header.chunks, d.header.signatures) = (3, 3);
+        }),
+        Outcome::Accepted { .. }
+    ));
+    let unbounded = "header float=6\nchunk block=Reentrant L=0 D=1 returns=Top:0:?
+        PushImmediate 1 : 0 1\nYield : 1 1\nsite Top:0:? Flat:0:?\nReturn : 0 0";
+    assert_eq!(ample(&parsed(unbounded)), refused(11, NO, NO, 0));
+    let past = "header float=6 layout=1 slots=2\nchunk L=0 D=1 returns=Scalar:1:?
+        PushImmediate 1 : 0 1\nReturn : 0 0\nshared 3\ninit Int 0\ninit Int 0";
+    assert_eq!(ample(&parsed(past)), refused(12, NO, NO, 0));
+    for (name, outcome) in [
+        ("refused-13", refused(13, 0, 1, 5)),
+        ("refused-14", refused(14, 0, 2, 3)),
+        ("refused-15", refused(15, 0, 2, 7)),
+        ("refused-16", refused(16, 0, 1, 8)),
+        ("refused-17", refused(17, 0, 1, 8)),
+        ("refused-18", refused(18, 0, 2, 3)),
+    ] {
+        assert_eq!(ample(&example(name)), outcome, "{name}");
+    }
+}
+
+#[test]
+fn one_for_each_refusal_up_to_8() {
+    let bytes = example("worked").encode();
+    assert_eq!(check(&bytes[1..], 16384, 16384, 9), refused(1, NO, NO, 0));
+    let with = |change: fn(&mut Description)| {
+        let mut d = example("worked");
+        change(&mut d);
+        ample(&d)
+    };
+    assert_eq!(with(|d| d.header.float_bits_log2 = 32), refused(2, NO, NO, 0));
+    assert_eq!(with(|d| d.header.entry = 1), refused(3, NO, NO, 0));
+    assert_eq!(with(|d| d.chunks[0].code[1].taken = 0), refused(4, 0, 1, 0));
+    // W is 16 x (3 x (0 + 1 + 6) + 0 + 2 + 0 + 4).
+    assert_eq!(example("worked").least_words(), 432);
+    assert_eq!(check(&bytes, 432, 16384, 9), refused(5, NO, NO, 0));
+    assert_eq!(check(&bytes, 0, 0, 0), refused(5, NO, NO, 0));
+    assert!(matches!(check(&bytes, 433, 16384, 9), Outcome::Accepted { steps: 6, .. }));
+    let length = 7 + 54 + 3 * 15 + 2 * 49 + 2 * 51;
+    assert!(matches!(check(&bytes, 433, length, 6), Outcome::Accepted { steps: 6, report } if report.len() == length));
+    assert_eq!(check(&bytes, 433, length - 1, 6), refused(6, NO, NO, 6));
+    assert_eq!(check(&bytes, 433, 0, 6), refused(6, NO, NO, 6));
+    for limit in 0..6 {
+        assert_eq!(check(&bytes, 433, length, limit), refused(7, 0, (limit % 3) as u16, limit));
+    }
+    let two_ways = example("refused-8").encode();
+    assert_eq!(check(&two_ways, 657, 16384, 99), refused(8, 0, 1, 2));
+    assert!(matches!(check(&two_ways, 658, 16384, 99), Outcome::Accepted { .. }));
+    assert_eq!(measure(&two_ways, 658, 16384, 99).most_queued, 2);
+}
+
+#[test]
+fn order_within_one_instruction() {
+    // Each line: instruction 2 has the faults named, the first one counts.
+    let answer = |deepest: u16, code: &str| {
+        let text = format!("header float=6\nchunk L=0 D={deepest} returns=Top:0:?\nPushImmediate 4 : 0 1\n{code}");
+        ample(&parsed(&text))
+    };
+    // Underflow before height.
+    assert_eq!(answer(1, "PopN : 2 4"), refused(13, 0, 1, 2));
+    // Height before joining, also where no way leaves.
+    assert_eq!(answer(1, "Trap : 0 1"), refused(18, 0, 1, 2));
+    assert_eq!(answer(1, "Return : 0 1"), refused(18, 0, 1, 2));
+    assert!(matches!(answer(2, "Return : 0 1"), Outcome::Accepted { .. }));
+    // A rule's 13 in the rounds before the height.
+    assert_eq!(answer(1, "Len : 0 2"), refused(13, 0, 1, 2));
+    // The height in the rounds before 13 in validation.
+    assert_eq!(answer(1, "FloatToInt : 1 2"), refused(18, 0, 1, 2));
+    assert_eq!(answer(2, "FloatToInt : 1 2\nTrap : 0 0"), refused(13, 0, 1, 5));
+    // Way by way: the first way's join and queue before the second's.
+    let ways = "header float=6\nchunk L=0 D=2 returns=Top:0:?
+        Const Unit : 0 1
+        CallExternalNative 0 : 0 1
+        If 0 : 1 0
+        Trap : 0 0
+        native Scalar:1:s1 snapshot=0";
+    let d = parsed(ways);
+    // The target has height 0, the way 1; the next goes first into a queue of one.
+    assert_eq!(check(&d.encode(), d.least_words() + 1, 9999, 99), refused(18, 0, 2, 3));
+    // 7 against 16: the validation ends with the limit, 16 comes first.
+    assert_eq!(check(&example("refused-16").encode(), 16384, 9999, 8), refused(16, 0, 1, 8));
+    assert_eq!(check(&example("refused-16").encode(), 16384, 9999, 7), refused(7, 0, 3, 7));
+}
+
+#[test]
+fn no_reachable_chunk() {
+    let mut d = example("call");
+    for chunk in &mut d.chunks {
+        chunk.reachable = 0;
+    }
+    let Outcome::Accepted { report, steps } = check(&d.encode(), 16384, 16384, 0) else { panic!("accepted") };
+    assert_eq!((steps, report.len()), (0, 7 + 3 + 2 + 49 + 3 + 2 + 2 * 49));
+}
+
+#[test]
+fn lookup_answers_the_record() {
+    use oracle::lookup::lookup;
+    let Outcome::Accepted { report, .. } = ample(&example("worked")) else { panic!("accepted") };
+    let record = lookup(&report, 0, 1);
+    assert_eq!(&record[..7], &[19, 112, 0, 0, 0, 1, 0]);
+    assert_eq!(record.len(), 115);
+    let none = lookup(&report, 1, 0);
+    assert!(none.is_empty());
+    assert_eq!(none.as_ptr(), report[report.len()..].as_ptr());
+    // A short field is passed over, an overrun ends the walk.
+    let mut odd = vec![19, 3, 0, 0, 0, 1, 19, 4, 0, 0, 0, 1, 0, 19, 5, 0, 0, 0, 1, 0];
+    assert_eq!(lookup(&odd, 0, 1), &[19, 4, 0, 0, 0, 1, 0]);
+    odd[1] = 4;
+    assert!(lookup(&odd, 0, 1).is_empty());
+}
