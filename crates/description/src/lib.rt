@@ -101,7 +101,7 @@ pub fn params_at(s: &[u8], p: usize) -> usize
     requires { ⌜ p < 2 ^ 62 ⌝ }
     ensures { λ r. ⌜ (r ≡ paramsAt (now (s .entry)) p) × (r < p + 267) ⌝ }
 {
-    p + 11 + (u8_at(s, p + 10) as usize)
+    tags_at(p) + (u8_at(s, p + 10) as usize)
 }
 
 pub fn params_of(s: &[u8], p: usize) -> u8

@@ -164,23 +164,74 @@ fn rules_0(op: u8) -> Rule
         // GetLocal
         1 => plain(Makes::Local, Others::Unknowns, Asks::Free),
         // SetLocal
-        2 => ruled(Makes::Anything, Others::Unknowns, Asks::Free, Exit::Next, Acts::SetsLocal, Data::NoSlot),
+        2 => ruled(
+            Makes::Anything,
+            Others::Unknowns,
+            Asks::Free,
+            Exit::Next,
+            Acts::SetsLocal,
+            Data::NoSlot,
+        ),
         // GetData
-        3 => ruled(Makes::Slots, Others::Unknowns, Asks::Free, Exit::Next, Acts::Still, Data::OneSlot),
+        3 => ruled(
+            Makes::Slots,
+            Others::Unknowns,
+            Asks::Free,
+            Exit::Next,
+            Acts::Still,
+            Data::OneSlot,
+        ),
         // SetData
-        4 => ruled(Makes::Kind(Mask::WORD), Others::Words, Asks::Stored, Exit::Next, Acts::Stores, Data::OneSlot),
+        4 => ruled(
+            Makes::Kind(Mask::WORD),
+            Others::Words,
+            Asks::Stored,
+            Exit::Next,
+            Acts::Stores,
+            Data::OneSlot,
+        ),
         // GetDataIndexed
-        5 => ruled(Makes::Slots, Others::Words, Asks::Both(Mask::WORD, Mask::FALLBACK), Exit::Next, Acts::Still, Data::ManySlots),
+        5 => ruled(
+            Makes::Slots,
+            Others::Words,
+            Asks::Both(Mask::WORD, Mask::FALLBACK),
+            Exit::Next,
+            Acts::Still,
+            Data::ManySlots,
+        ),
         // SetDataIndexed
-        6 => ruled(Makes::Kind(Mask::WORD), Others::Words, Asks::Stored, Exit::Next, Acts::Stores, Data::ManySlots),
+        6 => ruled(
+            Makes::Kind(Mask::WORD),
+            Others::Words,
+            Asks::Stored,
+            Exit::Next,
+            Acts::Stores,
+            Data::ManySlots,
+        ),
         // BoundsCheck
-        7 => plain(Makes::Kind(Mask::WORD), Others::Words, Asks::First(Mask::WORD)),
+        7 => plain(
+            Makes::Kind(Mask::WORD),
+            Others::Words,
+            Asks::First(Mask::WORD),
+        ),
         // Add
-        8 => plain(Makes::Common(Mask::MIXED), Others::Unknowns, Asks::Every(Mask::MIXED)),
+        8 => plain(
+            Makes::Common(Mask::MIXED),
+            Others::Unknowns,
+            Asks::Every(Mask::MIXED),
+        ),
         // Sub
-        9 => plain(Makes::Common(Mask::MIXED), Others::Unknowns, Asks::Every(Mask::MIXED)),
+        9 => plain(
+            Makes::Common(Mask::MIXED),
+            Others::Unknowns,
+            Asks::Every(Mask::MIXED),
+        ),
         // Mul
-        10 => plain(Makes::Common(Mask::MIXED), Others::Unknowns, Asks::Every(Mask::MIXED)),
+        10 => plain(
+            Makes::Common(Mask::MIXED),
+            Others::Unknowns,
+            Asks::Every(Mask::MIXED),
+        ),
         _ => no_rule(),
     }
 }
@@ -191,15 +242,35 @@ fn rules_11(op: u8) -> Rule
 {
     match op {
         // Div
-        11 => plain(Makes::Common(Mask::NUMERIC), Others::Checked, Asks::Every(Mask::NUMERIC)),
+        11 => plain(
+            Makes::Common(Mask::NUMERIC),
+            Others::Checked,
+            Asks::Every(Mask::NUMERIC),
+        ),
         // Mod
-        12 => plain(Makes::Common(Mask::NUMERIC), Others::Checked, Asks::Every(Mask::NUMERIC)),
+        12 => plain(
+            Makes::Common(Mask::NUMERIC),
+            Others::Checked,
+            Asks::Every(Mask::NUMERIC),
+        ),
         // Neg
-        13 => plain(Makes::Common(Mask::MIXED), Others::Unknowns, Asks::Every(Mask::MIXED)),
+        13 => plain(
+            Makes::Common(Mask::MIXED),
+            Others::Unknowns,
+            Asks::Every(Mask::MIXED),
+        ),
         // CmpEq
-        14 => plain(Makes::Kind(Mask::BOOL), Others::Unknowns, Asks::Both(Mask::GUARDED, Mask::GUARDED)),
+        14 => plain(
+            Makes::Kind(Mask::BOOL),
+            Others::Unknowns,
+            Asks::Both(Mask::GUARDED, Mask::GUARDED),
+        ),
         // CmpNe
-        15 => plain(Makes::Kind(Mask::BOOL), Others::Unknowns, Asks::Both(Mask::GUARDED, Mask::GUARDED)),
+        15 => plain(
+            Makes::Kind(Mask::BOOL),
+            Others::Unknowns,
+            Asks::Both(Mask::GUARDED, Mask::GUARDED),
+        ),
         // CmpLt
         16 => plain(Makes::Kind(Mask::BOOL), Others::Unknowns, Asks::Ordered),
         // CmpGt
@@ -211,7 +282,14 @@ fn rules_11(op: u8) -> Rule
         // Not
         20 => plain(Makes::Negation, Others::Unknowns, Asks::First(Mask::BOOL)),
         // If
-        21 => ruled(Makes::Anything, Others::Unknowns, Asks::First(Mask::BOOL), Exit::Ifs, Acts::Still, Data::NoSlot),
+        21 => ruled(
+            Makes::Anything,
+            Others::Unknowns,
+            Asks::First(Mask::BOOL),
+            Exit::Ifs,
+            Acts::Still,
+            Data::NoSlot,
+        ),
         _ => no_rule(),
     }
 }
@@ -222,27 +300,83 @@ fn rules_22(op: u8) -> Rule
 {
     match op {
         // Else
-        22 => ruled(Makes::Anything, Others::Unknowns, Asks::Free, Exit::Jumps, Acts::Still, Data::NoSlot),
+        22 => ruled(
+            Makes::Anything,
+            Others::Unknowns,
+            Asks::Free,
+            Exit::Jumps,
+            Acts::Still,
+            Data::NoSlot,
+        ),
         // EndIf
         23 => plain(Makes::Anything, Others::Unknowns, Asks::Free),
         // Loop
         24 => plain(Makes::Anything, Others::Unknowns, Asks::Free),
         // EndLoop
-        25 => ruled(Makes::Anything, Others::Unknowns, Asks::Free, Exit::Jumps, Acts::Still, Data::NoSlot),
+        25 => ruled(
+            Makes::Anything,
+            Others::Unknowns,
+            Asks::Free,
+            Exit::Jumps,
+            Acts::Still,
+            Data::NoSlot,
+        ),
         // Break
-        26 => ruled(Makes::Anything, Others::Unknowns, Asks::Free, Exit::Jumps, Acts::Still, Data::NoSlot),
+        26 => ruled(
+            Makes::Anything,
+            Others::Unknowns,
+            Asks::Free,
+            Exit::Jumps,
+            Acts::Still,
+            Data::NoSlot,
+        ),
         // BreakIf
-        27 => ruled(Makes::Anything, Others::Unknowns, Asks::First(Mask::BOOL), Exit::Breaks, Acts::Still, Data::NoSlot),
+        27 => ruled(
+            Makes::Anything,
+            Others::Unknowns,
+            Asks::First(Mask::BOOL),
+            Exit::Breaks,
+            Acts::Still,
+            Data::NoSlot,
+        ),
         // Stream
         28 => plain(Makes::Anything, Others::Unknowns, Asks::Free),
         // Reset
-        29 => ruled(Makes::Anything, Others::Unknowns, Asks::Free, Exit::Restarts, Acts::Resets, Data::NoSlot),
+        29 => ruled(
+            Makes::Anything,
+            Others::Unknowns,
+            Asks::Free,
+            Exit::Restarts,
+            Acts::Resets,
+            Data::NoSlot,
+        ),
         // Call
-        30 => ruled(Makes::Result, Others::Unknowns, Asks::Free, Exit::Next, Acts::Calls, Data::NoSlot),
+        30 => ruled(
+            Makes::Result,
+            Others::Unknowns,
+            Asks::Free,
+            Exit::Next,
+            Acts::Calls,
+            Data::NoSlot,
+        ),
         // Return
-        31 => ruled(Makes::Anything, Others::Unknowns, Asks::Returned, Exit::Stops, Acts::Returns, Data::NoSlot),
+        31 => ruled(
+            Makes::Anything,
+            Others::Unknowns,
+            Asks::Returned,
+            Exit::Stops,
+            Acts::Returns,
+            Data::NoSlot,
+        ),
         // Yield
-        32 => ruled(Makes::Reply, Others::Unknowns, Asks::Yielded, Exit::Next, Acts::Yields, Data::NoSlot),
+        32 => ruled(
+            Makes::Reply,
+            Others::Unknowns,
+            Asks::Yielded,
+            Exit::Next,
+            Acts::Yields,
+            Data::NoSlot,
+        ),
         _ => no_rule(),
     }
 }
@@ -259,7 +393,11 @@ fn rules_33(op: u8) -> Rule
         // GetField
         35 => plain(Makes::Part, Others::Unknowns, Asks::PartOf(Mask::STRUCT)),
         // GetIndex
-        36 => plain(Makes::Part, Others::Words, Asks::Both(Mask::ARRAY, Mask::WORD)),
+        36 => plain(
+            Makes::Part,
+            Others::Words,
+            Asks::Both(Mask::ARRAY, Mask::WORD),
+        ),
         // GetTupleField
         37 => plain(Makes::Part, Others::Unknowns, Asks::PartOf(Mask::TUPLE)),
         // GetEnumField
@@ -271,9 +409,17 @@ fn rules_33(op: u8) -> Rule
         // IsStruct
         41 => plain(Makes::Operand, Others::Tested(Mask::STRUCT), Asks::Free),
         // IntToFloat
-        42 => plain(Makes::Kind(Mask::FLOAT), Others::Unknowns, Asks::First(Mask::WORD)),
+        42 => plain(
+            Makes::Kind(Mask::FLOAT),
+            Others::Unknowns,
+            Asks::First(Mask::WORD),
+        ),
         // FloatToInt
-        43 => plain(Makes::Kind(Mask::WORD), Others::Unknowns, Asks::First(Mask::FLOAT)),
+        43 => plain(
+            Makes::Kind(Mask::WORD),
+            Others::Unknowns,
+            Asks::First(Mask::FLOAT),
+        ),
         _ => no_rule(),
     }
 }
@@ -284,27 +430,74 @@ fn rules_44(op: u8) -> Rule
 {
     match op {
         // WordToByte
-        44 => plain(Makes::Kind(Mask::BYTE), Others::Unknowns, Asks::First(Mask::WORD)),
+        44 => plain(
+            Makes::Kind(Mask::BYTE),
+            Others::Unknowns,
+            Asks::First(Mask::WORD),
+        ),
         // ByteToWord
-        45 => plain(Makes::Kind(Mask::WORD), Others::Unknowns, Asks::First(Mask::BYTE)),
+        45 => plain(
+            Makes::Kind(Mask::WORD),
+            Others::Unknowns,
+            Asks::First(Mask::BYTE),
+        ),
         // WordToFixed
-        46 => plain(Makes::Kind(Mask::FIXED), Others::Unknowns, Asks::First(Mask::WORD)),
+        46 => plain(
+            Makes::Kind(Mask::FIXED),
+            Others::Unknowns,
+            Asks::First(Mask::WORD),
+        ),
         // FixedToWord
-        47 => plain(Makes::Kind(Mask::WORD), Others::Unknowns, Asks::First(Mask::FIXED)),
+        47 => plain(
+            Makes::Kind(Mask::WORD),
+            Others::Unknowns,
+            Asks::First(Mask::FIXED),
+        ),
         // FixedMul
-        48 => plain(Makes::Kind(Mask::FIXED), Others::Unknowns, Asks::Same(Mask::FIXED)),
+        48 => plain(
+            Makes::Kind(Mask::FIXED),
+            Others::Unknowns,
+            Asks::Same(Mask::FIXED),
+        ),
         // FixedDiv
-        49 => plain(Makes::Kind(Mask::FIXED), Others::Checked, Asks::Same(Mask::FIXED)),
+        49 => plain(
+            Makes::Kind(Mask::FIXED),
+            Others::Checked,
+            Asks::Same(Mask::FIXED),
+        ),
         // Trap
-        50 => ruled(Makes::Anything, Others::Unknowns, Asks::Free, Exit::Stops, Acts::Still, Data::NoSlot),
+        50 => ruled(
+            Makes::Anything,
+            Others::Unknowns,
+            Asks::Free,
+            Exit::Stops,
+            Acts::Still,
+            Data::NoSlot,
+        ),
         // CheckedAdd
-        51 => plain(Makes::Common(Mask::NUMERIC), Others::Checked, Asks::Every(Mask::NUMERIC)),
+        51 => plain(
+            Makes::Common(Mask::NUMERIC),
+            Others::Checked,
+            Asks::Every(Mask::NUMERIC),
+        ),
         // CheckedSub
-        52 => plain(Makes::Common(Mask::NUMERIC), Others::Checked, Asks::Every(Mask::NUMERIC)),
+        52 => plain(
+            Makes::Common(Mask::NUMERIC),
+            Others::Checked,
+            Asks::Every(Mask::NUMERIC),
+        ),
         // CheckedMul
-        53 => plain(Makes::Common(Mask::NUMERIC), Others::Checked, Asks::Every(Mask::NUMERIC)),
+        53 => plain(
+            Makes::Common(Mask::NUMERIC),
+            Others::Checked,
+            Asks::Every(Mask::NUMERIC),
+        ),
         // CheckedNeg
-        54 => plain(Makes::Common(Mask::EXACT), Others::Checked, Asks::Every(Mask::EXACT)),
+        54 => plain(
+            Makes::Common(Mask::EXACT),
+            Others::Checked,
+            Asks::Every(Mask::EXACT),
+        ),
         _ => no_rule(),
     }
 }
@@ -315,9 +508,17 @@ fn rules_55(op: u8) -> Rule
 {
     match op {
         // CheckedDiv
-        55 => plain(Makes::Common(Mask::NUMERIC), Others::Checked, Asks::Every(Mask::NUMERIC)),
+        55 => plain(
+            Makes::Common(Mask::NUMERIC),
+            Others::Checked,
+            Asks::Every(Mask::NUMERIC),
+        ),
         // CheckedMod
-        56 => plain(Makes::Common(Mask::WHOLE), Others::Checked, Asks::Every(Mask::WHOLE)),
+        56 => plain(
+            Makes::Common(Mask::WHOLE),
+            Others::Checked,
+            Asks::Every(Mask::WHOLE),
+        ),
         // PushImmediate
         57 => plain(Makes::Immediate, Others::Unknowns, Asks::Free),
         // PopN
@@ -329,9 +530,17 @@ fn rules_55(op: u8) -> Rule
         // BitXor
         61 => plain(Makes::OneKind, Others::Unknowns, Asks::Same(Mask::WORD)),
         // Shl
-        62 => plain(Makes::OperandMask, Others::Unknowns, Asks::Both(Mask::WORD, Mask::WORD)),
+        62 => plain(
+            Makes::OperandMask,
+            Others::Unknowns,
+            Asks::Both(Mask::WORD, Mask::WORD),
+        ),
         // Shr
-        63 => plain(Makes::OperandMask, Others::Unknowns, Asks::Both(Mask::WORD, Mask::WORD)),
+        63 => plain(
+            Makes::OperandMask,
+            Others::Unknowns,
+            Asks::Both(Mask::WORD, Mask::WORD),
+        ),
         // CallVerifiedNative
         64 => plain(Makes::NativeValue, Others::Status, Asks::Free),
         // CallExternalNative

@@ -39,9 +39,14 @@ outputs-long : {os : List Output} → All (λ o. Proper (o .cell)) os → length
 unfolding outputsBytes
 outputs-long nil = refl
 outputs-long (cons {x = o} {xs = os} p ps) =
-    omega
-    (arith, length-append (le16 (o .slot)) (cellBytes (o .cell) ++ outputsBytes os), length-append (cellBytes (o .cell)) (outputsBytes os), long16 (o .slot),
-    cell-long (o .cell) (p .four), outputs-long ps)
+    omega (
+      arith,
+      length-append (le16 (o .slot)) (cellBytes (o .cell) ++ outputsBytes os),
+      length-append (cellBytes (o .cell)) (outputsBytes os),
+      long16 (o .slot),
+      cell-long (o .cell) (p .four),
+      outputs-long ps,
+    )
 
 output-same : (o : Output) (n : ℕ) (c : Cell) → n ≡ o .slot → c ≡ o .cell → record { slot = n; cell = c } ≡ o
 output-same o n c a b = λ i. record { slot = a i; cell = b i }
@@ -53,7 +58,7 @@ outputs-read {s} {q} (cons {x = o} {xs = os} p ps) h =
     let rest : List ℕ = cellBytes (o .cell) ++ outputsBytes os in
     let h₁ : Has s (q + 2) rest = has-right 2 (le16 (o .slot)) rest (long16 _) h in
     let h₂ : Has s (q + 51) (outputsBytes os) =
-        has-at (q + 51) (omega arith) (has-right 49 (cellBytes (o .cell)) (outputsBytes os) (cell-long (o .cell) (p .four)) h₁) in
+    has-at (q + 51) (omega arith) (has-right 49 (cellBytes (o .cell)) (outputsBytes os) (cell-long (o .cell) (p .four)) h₁) in
     ap₂ (λ a b. a ∷ b)
     (output-same o _ _ (read16 _ (has-left (le16 (o .slot)) rest h)) (cell-read (o .cell) p (has-left (cellBytes (o .cell)) (outputsBytes os) h₁)))
     (outputs-read ps h₂)
@@ -62,9 +67,14 @@ guards-long : (gs : List Guarded) → length (guardsBytes gs) ≡ 4 * length gs
 unfolding guardsBytes
 guards-long [] = refl
 guards-long (g ∷ gs) =
-    omega
-    (arith, length-append (le16 (g .place)) (le16 (g .mask .bits) ++ guardsBytes gs), length-append (le16 (g .mask .bits)) (guardsBytes gs), long16 (g .place),
-    long16 (g .mask .bits), guards-long gs)
+    omega (
+      arith,
+      length-append (le16 (g .place)) (le16 (g .mask .bits) ++ guardsBytes gs),
+      length-append (le16 (g .mask .bits)) (guardsBytes gs),
+      long16 (g .place),
+      long16 (g .mask .bits),
+      guards-long gs,
+    )
 
 guard-same : (g : Guarded) (n k : ℕ) → n ≡ g .place → k ≡ g .mask .bits → record { place = n; mask = of k } ≡ g
 guard-same g n k a b = λ i. record { place = a i; mask = of (b i) }
@@ -113,7 +123,7 @@ signature-read {s} {p} x ok h =
     let l = cells-long (ok .inputs) in
     let r = cell-long (x .result) (ok .result .four) in
     let n : at16 s (p + 1) - 51 ≡ 49 * length (x .inputs) =
-        omega (arith, length-at 17 (signatureIn x) h, length-append (le16 (x .chunk)) rest, length-append (cellsBytes (x .inputs)) (cellBytes (x .result)), long16 (x .chunk)) in
+    omega (arith, length-at 17 (signatureIn x) h, length-append (le16 (x .chunk)) rest, length-append (cellsBytes (x .inputs)) (cellBytes (x .result)), long16 (x .chunk)) in
     let e : inputsIn (at16 s (p + 1) - 51) ≡ length (x .inputs) = ap inputsIn n ∙ inputs-in (length (x .inputs)) in
     let h₁ : Has s (p + 5) rest = has-at (p + 5) (omega arith) (has-right 2 (le16 (x .chunk)) rest (long16 _) c) in
     let h₂ : Has s (p + 5 + 49 * length (x .inputs)) (cellBytes (x .result)) = has-right (49 * length (x .inputs)) (cellsBytes (x .inputs)) (cellBytes (x .result)) l h₁ in
@@ -137,8 +147,7 @@ counts-read {s} {q} x h =
     let a : List ℕ = le16 (length (x .locals)) ++ b in
     let h₁ : Has s (q + 2) a = has-right 2 (le16 (length (x .stack))) a (long16 _) h in
     let h₂ : Has s (q + 4) b = has-at (q + 4) (omega arith) (has-right 2 (le16 (length (x .locals))) b (long16 _) h₁) in
-    let h₃ : Has s (q + 6) c = has-at (q + 6) (omega arith) (has-right 2 (le16 (length (x .outputs))) c (long16 _) h₂) in
-    (
+    let h₃ : Has s (q + 6) c = has-at (q + 6) (omega arith) (has-right 2 (le16 (length (x .outputs))) c (long16 _) h₂) in (
       read16 _ (has-left (le16 (length (x .stack))) a h),
       read16 _ (has-left (le16 (length (x .locals))) b h₁),
       read16 _ (has-left (le16 (length (x .outputs))) c h₂),
@@ -164,9 +173,9 @@ record-read {s} {p} x ok h =
     let hₜ : Has s (p + 15) t = has-at (p + 15) (omega arith) (has-right 8 (countsBytes x) t (counts-long x) hₙ) in
     let hₗ : Has s (p + 15 + 49 * length (x .stack)) l = has-right (49 * length (x .stack)) (cellsBytes (x .stack)) l (cells-long (ok .stack)) hₜ in
     let hₒ : Has s (p + 15 + 49 * length (x .stack) + 49 * length (x .locals)) o =
-        has-right (49 * length (x .locals)) (cellsBytes (x .locals)) o (cells-long (ok .locals)) hₗ in
+    has-right (49 * length (x .locals)) (cellsBytes (x .locals)) o (cells-long (ok .locals)) hₗ in
     let h₉ : Has s (p + 15 + 49 * length (x .stack) + 49 * length (x .locals) + 51 * length (x .outputs)) g =
-        has-right (51 * length (x .outputs)) (outputsBytes (x .outputs)) g (outputs-long (ok .outputs)) hₒ in
+    has-right (51 * length (x .outputs)) (outputsBytes (x .outputs)) g (outputs-long (ok .outputs)) hₒ in
     let k = counts-read x (has-left (countsBytes x) t hₙ) in
     let k₁ : at16 s (p + 9) ≡ length (x .locals) = ap (λ q. at16 s q) (omega arith) ∙ k .1 in
     let k₂ : at16 s (p + 11) ≡ length (x .outputs) = ap (λ q. at16 s q) (omega arith) ∙ k .2 in
@@ -271,20 +280,20 @@ module _ (s : List ℕ) (r : Report) (ok : ProperReport r) (p₁ p₂ p₃ p₄ 
     read-groups ps a t e =
         let q : List ℕ = S ++ (L ++ (R ++ (I ++ B))) in
         let s₁ : map (readSignature s) (ofTag 17 s ps) ≡ r .signatures =
-            ap (λ l. map (readSignature s) (ofTag 17 s l)) e ∙ ap (map (readSignature s)) (tag-past 17 s q t (λ x. omega arith) ∙ picks-17)
-            ∙ group-read 17 signatureIn ProperSignature (readSignature s) (λ q x o h. signature-read x o h) (ok .signatures) h₁ in
+        ap (λ l. map (readSignature s) (ofTag 17 s l)) e ∙ ap (map (readSignature s)) (tag-past 17 s q t (λ x. omega arith) ∙ picks-17)
+        ∙ group-read 17 signatureIn ProperSignature (readSignature s) (λ q x o h. signature-read x o h) (ok .signatures) h₁ in
         let s₂ : map (λ p. readCell s (p + 3)) (ofTag 18 s ps) ≡ r .slots =
-            ap (λ l. map (λ p. readCell s (p + 3)) (ofTag 18 s l)) e ∙ ap (map (λ p. readCell s (p + 3))) (tag-past 18 s q t (λ x. omega arith) ∙ picks-18)
-            ∙ group-read 18 cellBytes Proper (λ p. readCell s (p + 3)) (λ q x o h. cell-read x o (contents-at 18 (cellBytes x) h)) (ok .slots) h₂ in
+        ap (λ l. map (λ p. readCell s (p + 3)) (ofTag 18 s l)) e ∙ ap (map (λ p. readCell s (p + 3))) (tag-past 18 s q t (λ x. omega arith) ∙ picks-18)
+        ∙ group-read 18 cellBytes Proper (λ p. readCell s (p + 3)) (λ q x o h. cell-read x o (contents-at 18 (cellBytes x) h)) (ok .slots) h₂ in
         let s₃ : map (readRecord s) (ofTag 19 s ps) ≡ r .records =
-            ap (λ l. map (readRecord s) (ofTag 19 s l)) e ∙ ap (map (readRecord s)) (tag-past 19 s q t (λ x. omega arith) ∙ picks-19)
-            ∙ group-read 19 recordIn ProperRecord (readRecord s) (λ q x o h. record-read x o h) (ok .records) h₃ in
+        ap (λ l. map (readRecord s) (ofTag 19 s l)) e ∙ ap (map (readRecord s)) (tag-past 19 s q t (λ x. omega arith) ∙ picks-19)
+        ∙ group-read 19 recordIn ProperRecord (readRecord s) (λ q x o h. record-read x o h) (ok .records) h₃ in
         let s₄ : map (readInspection s) (ofTag 20 s ps) ≡ r .inspections =
-            ap (λ l. map (readInspection s) (ofTag 20 s l)) e ∙ ap (map (readInspection s)) (tag-past 20 s q t (λ x. omega arith) ∙ picks-20)
-            ∙ group-read 20 inspectionIn (λ x. Unit {0}) (readInspection s) (λ q x o h. inspection-read x h) (always (r .inspections)) h₄ in
+        ap (λ l. map (readInspection s) (ofTag 20 s l)) e ∙ ap (map (readInspection s)) (tag-past 20 s q t (λ x. omega arith) ∙ picks-20)
+        ∙ group-read 20 inspectionIn (λ x. Unit {0}) (readInspection s) (λ q x o h. inspection-read x h) (always (r .inspections)) h₄ in
         let s₅ : map (readBranch s) (ofTag 21 s ps) ≡ r .branches =
-            ap (λ l. map (readBranch s) (ofTag 21 s l)) e ∙ ap (map (readBranch s)) (tag-past 21 s q t (λ x. omega arith) ∙ picks-21)
-            ∙ group-read 21 branchIn (λ x. Unit {0}) (readBranch s) (λ q x o h. branch-read x h) (always (r .branches)) h₅ in
+        ap (λ l. map (readBranch s) (ofTag 21 s l)) e ∙ ap (map (readBranch s)) (tag-past 21 s q t (λ x. omega arith) ∙ picks-21)
+        ∙ group-read 21 branchIn (λ x. Unit {0}) (readBranch s) (λ q x o h. branch-read x h) (always (r .branches)) h₅ in
         λ i. record { reply = a i; signatures = s₁ i; slots = s₂ i; records = s₃ i; inspections = s₄ i; branches = s₅ i }
 
 -- bytes that are the fields of a report
@@ -318,10 +327,10 @@ laid s r ok e =
     let h₃ : Has s p₃ G₃ = has-left G₃ T₅ t₃ in
     let h₄ : Has s p₄ G₄ = has-left G₄ G₅ t₄ in
     let n : length s ≡ p₅ + length G₅ =
-        ap length e
-        ∙ omega (arith, length-append F T₂, length-append G₁ T₃, length-append G₂ T₄, length-append G₃ T₅, length-append G₄ G₅) in
+    ap length e
+    ∙ omega (arith, length-append F T₂, length-append G₁ T₃, length-append G₂ T₄, length-append G₃ T₅, length-append G₄ G₅) in
     let w₀ : fieldsFrom s 0 ≡ 0 ∷ fieldsFrom s 7 =
-        fields-turn s 0 (omega arith) ∙ ap (λ q. 0 ∷ fieldsFrom s q) (next-at 16 (le32 (r .reply)) hF ∙ omega (arith, long32 (r .reply))) in
+    fields-turn s 0 (omega arith) ∙ ap (λ q. 0 ∷ fieldsFrom s q) (next-at 16 (le32 (r .reply)) hF ∙ omega (arith, long32 (r .reply))) in
     let w₁ = group-walk 17 signatureIn (r .signatures) h₁ (omega arith) in
     let w₂ = group-walk 18 cellBytes (r .slots) h₂ (omega arith) in
     let w₃ = group-walk 19 recordIn (r .records) h₃ (omega arith) in
@@ -333,15 +342,15 @@ laid s r ok e =
     let I : List ℕ = places 20 inspectionIn p₄ (r .inspections) in
     let B : List ℕ = places 21 branchIn p₅ (r .branches) in
     let w : fieldsFrom s 0 ≡ 0 ∷ (S ++ (L ++ (R ++ (I ++ B)))) =
-        w₀
-        ∙ ap (λ l. 0 ∷ l)
-        (w₁
-        ∙ ap (λ l. S ++ l)
-        (w₂
-        ∙ ap (λ l. L ++ l)
-        (w₃
-        ∙ ap (λ l. R ++ l)
-        (w₄ ∙ ap (λ l. I ++ l) (w₅ ∙ ap (λ l. B ++ l) (fields-end s (p₅ + length G₅) (omega arith)) ∙ append-nil B))))) in
+    w₀
+    ∙ ap (λ l. 0 ∷ l)
+    (w₁
+    ∙ ap (λ l. S ++ l)
+    (w₂
+    ∙ ap (λ l. L ++ l)
+    (w₃
+    ∙ ap (λ l. R ++ l)
+    (w₄ ∙ ap (λ l. I ++ l) (w₅ ∙ ap (λ l. B ++ l) (fields-end s (p₅ + length G₅) (omega arith)) ∙ append-nil B))))) in
     read-groups s r ok 7 p₂ p₃ p₄ p₅ h₁ h₂ h₃ h₄ h₅ (fieldsFrom s 0) (read32 (r .reply) (contents-at 16 (le32 (r .reply)) hF)) (tag-at 16 (le32 (r .reply)) hF) w
 
 -- a report read back from its bytes is the report

@@ -120,8 +120,7 @@ source-read {s} {q} f h =
     let rest : List ℕ = le16 (receiverNumber (f .predicate)) ++ (whenByte (f .predicate) ∷ []) in
     let h₁ : Has s (q + 3) rest = has-at (q + 3) (omega arith) (has-right 2 (le16 (originNumber (f .origin))) rest (long16 _) (has-tail h)) in
     let h₂ : Has s (q + 5) (whenByte (f .predicate) ∷ []) =
-        has-at (q + 5) (omega arith) (has-right 2 (le16 (receiverNumber (f .predicate))) (whenByte (f .predicate) ∷ []) (long16 _) h₁) in
-    (
+    has-at (q + 5) (omega arith) (has-right 2 (le16 (receiverNumber (f .predicate))) (whenByte (f .predicate) ∷ []) (long16 _) h₁) in (
       has-head h,
       read16 _ (has-left (le16 (originNumber (f .origin))) rest (has-tail h)),
       read16 _ (has-left (le16 (receiverNumber (f .predicate))) (whenByte (f .predicate) ∷ []) h₁),
@@ -132,11 +131,16 @@ source-read {s} {q} f h =
 pub cell-long : (c : Cell) → length (c .flow .bodies) ≡ 4 → length (cellBytes c) ≡ 49
 unfolding cellBytes
 cell-long c e =
-    omega
-    (arith, length-append (le16 (c .mask .bits)) (widthBytes (c .width) ++ (bodiesBytes (c .flow .bodies) ++ sourceBytes (c .flow))),
-    length-append (widthBytes (c .width)) (bodiesBytes (c .flow .bodies) ++ sourceBytes (c .flow)),
-    length-append (bodiesBytes (c .flow .bodies)) (sourceBytes (c .flow)), long16 (c .mask .bits), width-long (c .width),
-    bodies-long (c .flow .bodies), source-long (c .flow))
+    omega (
+      arith,
+      length-append (le16 (c .mask .bits)) (widthBytes (c .width) ++ (bodiesBytes (c .flow .bodies) ++ sourceBytes (c .flow))),
+      length-append (widthBytes (c .width)) (bodiesBytes (c .flow .bodies) ++ sourceBytes (c .flow)),
+      length-append (bodiesBytes (c .flow .bodies)) (sourceBytes (c .flow)),
+      long16 (c .mask .bits),
+      width-long (c .width),
+      bodies-long (c .flow .bodies),
+      source-long (c .flow),
+    )
 
 cell-same : (c : Cell) (n : ℕ) (w : Width) (xs : List Extent) (o : Owned) (g : Origin) (p : Predicate) → n ≡ c .mask .bits → w ≡ c .width → xs ≡ c .flow .bodies
     → o ≡ c .flow .owned → g ≡ c .flow .origin → p ≡ c .flow .predicate
@@ -153,7 +157,7 @@ cell-read {s} {q} c ok h =
     let h₂ : Has s (q + 7) t₂ = has-at (q + 7) (omega arith) (has-right 5 (widthBytes (c .width)) t₂ (width-long (c .width)) h₁) in
     let e₃ : length (bodiesBytes (c .flow .bodies)) ≡ 36 = omega (arith, bodies-long (c .flow .bodies), ok .four) in
     let h₃ : Has s (q + 43) (sourceBytes (c .flow)) =
-        has-at (q + 43) (omega arith) (has-right 36 (bodiesBytes (c .flow .bodies)) (sourceBytes (c .flow)) e₃ h₂) in
+    has-at (q + 43) (omega arith) (has-right 36 (bodiesBytes (c .flow .bodies)) (sourceBytes (c .flow)) e₃ h₂) in
     let (a, b, d, e) = source-read (c .flow) h₃ in
     let b′ : at16 s (q + 44) ≡ originNumber (c .flow .origin) = ap (λ k. at16 s k) (omega arith) ∙ b in
     let d′ : at16 s (q + 46) ≡ receiverNumber (c .flow .predicate) = ap (λ k. at16 s k) (omega arith) ∙ d in

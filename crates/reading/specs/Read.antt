@@ -53,12 +53,12 @@ readCell s q =
       mask = of (at16 s q);
       width = readWidth s (q + 2);
       flow =
-        record {
-          bodies = rowAt (readExtent s) 9 (q + 7) 4;
-          owned = readOwned (at8 s (q + 43));
-          origin = readOrigin (at16 s (q + 44));
-          predicate = readPredicate (at16 s (q + 46)) (at8 s (q + 48));
-        };
+          record {
+            bodies = rowAt (readExtent s) 9 (q + 7) 4;
+            owned = readOwned (at8 s (q + 43));
+            origin = readOrigin (at16 s (q + 44));
+            predicate = readPredicate (at16 s (q + 46)) (at8 s (q + 48));
+          };
     }
 
 unfoldable pub readCells : List ℕ → ℕ → ℕ → List Cell

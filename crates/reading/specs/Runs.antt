@@ -345,5 +345,5 @@ pub run-proper : (k : Known) (cap limit n : ℕ) (f : Facts) (x : Final Facts St
 unfolding runOf
 run-proper k cap limit n f x r p e =
     let h = check-keeps join cap (k .code .chunks) (λ c. c .reachable) start afterChunk opened (λ y. y .known) (absorb (k .code)) moved closed (leaves k) ProperState ProperFacts
-        (λ g. ProperFacts (g .known)) ProperGift (λ c. Unit {0}) (keeps k cap r) (every (k .code .chunks)) limit n f x p e in
+    (λ g. ProperFacts (g .known)) ProperGift (λ c. Unit {0}) (keeps k cap r) (every (k .code .chunks)) limit n f x p e in
     (h .facts-ok, h .states-ok)

@@ -56,8 +56,7 @@ field-read : {s : List ℕ} {p : ℕ} (tag : ℕ) (c : List ℕ) → Has s p (fi
     → (tagAt s p ≡ tag) × (lenAt s p ≡ length c) × (nextAt s p ≡ p + 3 + length c) × Has s (p + 3) c
 unfolding field tagAt lenAt nextAt
 field-read {s} {p} tag c h =
-    let l = read16 (length c) (has-left (le16 (length c)) c (has-tail h)) in
-    (
+    let l = read16 (length c) (has-left (le16 (length c)) c (has-tail h)) in (
       has-head h,
       l,
       rw l refl,

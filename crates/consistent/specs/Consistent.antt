@@ -1,0 +1,150 @@
+-- Demand 3: a report that is consistent beside its module. Recorded, takes in, leaves, passes and reached are document 01's words.
+use Prim.Native.Nat.{ℕ, _<_, _≤_}
+use mathlib.Core.Path.{_≡_}
+use mathlib.Core.Logic.{_⊎_, _↔_}
+use mathlib.Core.Bool.{true, false, _||_}
+use mathlib.Core.Option.{some}
+use mathlib.Core.List.{List, [], map, List·Memᴰ}
+use lib.Dec.{leb}
+use lib.ListN.{length, getD}
+use Rattle.masks.specs.Mask.{union}
+use Rattle.masks.specs.Names.{NONE, FALSE, TRUE}
+use Rattle.flows.specs.Flow.{joinFlow, noFlow}
+use Rattle.cells.specs.declared.Cell.{Cell}
+use Rattle.cells.specs.Cell.{joinCell}
+use Rattle.ops.specs.Ops.{ruleOf}
+use Rattle.definition.specs.Module.{Module, Chunk, Line, row}
+use Rattle.definition.specs.State.{State, Facts, Gift, nothing, arguments, returned, written}
+use Rattle.definition.specs.Data.{isBody}
+use Rattle.definition.specs.Outputs.{Visit, noCell}
+use Rattle.definition.specs.Wants.{unfit}
+use Rattle.definition.specs.Ways.{after, leaving}
+use Rattle.definition.specs.Leaves.{always, visitOf, lineAt, noLine, gives, storedFlow}
+use Rattle.definition.specs.Start.{stateFault, initMask, firstFacts, knownOf, filled, last}
+use Rattle.definition.specs.Report.{Report, Record, Inspection, Branch, saysFalse, isTest}
+
+-- ---- what a report says
+-- the cells of tags 17 and 18, as the rules read them
+unfoldable pub factsOf : Report → Facts
+factsOf r =
+    record {
+      inputs = map (λ x. x .inputs) (r .signatures);
+      results = map (λ x. x .result) (r .signatures);
+      masks = map (λ x. x .mask) (r .slots);
+      flows = map (λ x. x .flow) (r .slots);
+    }
+
+unfoldable pub stateOf : Record → State
+stateOf x = record { stack = x .stack; locals = x .locals }
+
+-- an instruction is recorded, in this state
+pub record Recorded (r : Report) (c i : ℕ) (s : State) : Type 0 where
+  pub entry : Record
+  pub listed : List·Memᴰ entry (r .records)
+  pub of-chunk : entry .chunk ≡ c
+  pub at : entry .instruction ≡ i
+  pub says : stateOf entry ≡ s
+
+-- ---- takes in
+-- a cell takes in another when joining that one changes nothing
+abbrev pub Takes : Cell → Cell → Type 0
+Takes x y = joinCell x y ≡ x
+
+-- the one row takes in the other, cell by cell
+pub record TakesAll (xs ys : List Cell) : Type 0 where
+  pub long : length xs ≡ length ys
+  pub each : (i : ℕ) → i < length ys → Takes (getD xs i noCell) (getD ys i noCell)
+
+-- the heights agree, and each stack cell and local takes in its counterpart
+pub record TakesIn (s x : State) : Type 0 where
+  pub stack : TakesAll (s .stack) (x .stack)
+  pub locals : TakesAll (s .locals) (x .locals)
+
+abbrev pub lineOf : Chunk → ℕ → Line
+lineOf c i = lineAt (c .code) i noLine
+
+-- ---- the visit of a record: the description, the record's stack and locals, and the cells of tags 17 and 18
+unfoldable pub visitAt : Module → Report → Chunk → ℕ → State → Visit
+visitAt m r c i s = visitOf (knownOf m (firstFacts m)) c (factsOf r) (lineOf c i) s
+
+-- along this way this leaves the instruction i, whose record has this state
+abbrev pub Leaves : Module → Report → Chunk → ℕ → State → ℕ → State → Type 0
+Leaves m r c i s to x = List·Memᴰ {A = ℕ × State} (to, x) (leaving (visitAt m r c i s) i)
+
+-- reached from the first instruction by a chain of passes between recorded instructions
+pub data Reached (m : Module) (r : Report) (c : Chunk) : ℕ → Type 0 where
+  first : Reached m r c 0
+  then : {i : ℕ} (to : ℕ) (s x : State) → Reached m r c i → Recorded r (c .number) i s → Leaves m r c i s to x → Reached m r c to
+
+-- a private slot, and what it keeps of a value written to it: a body's flow too
+abbrev pub Private : Module → ℕ → Type 0
+Private m n = (isBody m n || leb (length (m .shared)) n) ≡ true
+
+pub record WrittenIn (m : Module) (f : Facts) (n : ℕ) (c : Cell) : Type 0 where
+  pub mask : Private m n → union (getD (f .masks) n NONE) (c .mask) ≡ getD (f .masks) n NONE
+  pub flow : isBody m n ≡ true → joinFlow (getD (f .flows) n noFlow) (storedFlow (c .flow)) ≡ getD (f .flows) n noFlow
+
+-- the facts printed take in what a visit gives: each argument the callee's input, a value given back its chunk's result, a value written each
+-- slot of the write
+unfoldable pub GivenIn : Module → Facts → Gift → Type 0
+GivenIn m f nothing = Unit {0}
+GivenIn m f (arguments n cs) =
+    (length cs ≤ length (getD (f .inputs) n []))
+    × ((i : ℕ) → i < length cs → Takes (getD (getD (f .inputs) n []) i noCell) (getD cs i noCell))
+GivenIn m f (returned n c) = (n < length (f .results)) × Takes (getD (f .results) n noCell) c
+GivenIn m f (written ns c) = (n : ℕ) → List·Memᴰ n ns → (n < length (f .masks)) × WrittenIn m f n c
+
+-- the facts printed are as many as the declared ones and take them in: inputs, results, and the masks of the initializers
+pub record DeclaredIn (m : Module) (f : Facts) : Type 0 where
+  pub chunks : length (f .inputs) ≡ length (firstFacts m .inputs)
+  pub inputs : (n : ℕ) → n < length (f .inputs) → TakesAll (getD (f .inputs) n []) (getD (firstFacts m .inputs) n [])
+  pub results : TakesAll (f .results) (firstFacts m .results)
+  pub slots : length (f .masks) ≡ m .slots
+  pub masks : (n : ℕ) → n < m .slots → union (getD (f .masks) n NONE) (initMask m n) ≡ getD (f .masks) n NONE
+
+-- ---- branches and inspections
+-- a test whose condition is exactly one Bool
+abbrev pub KnownBranch : Module → Report → Branch → Type 0
+KnownBranch m r b = (c : Chunk) × (s : State) × List·Memᴰ c (m .chunks) × (c .number ≡ b .chunk)
+    × Recorded r (b .chunk) (b .instruction) s × (isTest (ruleOf (lineOf c (b .instruction) .instr .op) .exit) ≡ true)
+    × (((b .value ≡ 0) × (last (s .stack) .mask ≡ FALSE)) ⊎ ((b .value ≡ 1) × (last (s .stack) .mask ≡ TRUE)))
+
+-- an inspection for a kind that its operand can't be
+abbrev pub FalseInspection : Module → Report → Inspection → Type 0
+FalseInspection m r x = (c : Chunk) × (s : State) × List·Memᴰ c (m .chunks) × (c .number ≡ x .chunk)
+    × Recorded r (x .chunk) (x .instruction) s × (saysFalse (ruleOf (lineOf c (x .instruction) .instr .op) .others) (last (s .stack)) ≡ true)
+
+-- ---- what validation asks of a visit in this state
+pub record Fine (v : Visit) (s : State) : Type 0 where
+  pub fits : always v (length (s .stack)) ≡ 0
+  pub proven : unfit v ≡ 0
+  pub height : length (after v .stack) ≤ v .chunk .stack
+  pub inspected : stateFault (v .line) (some s) ≡ 0
+
+-- ---- the whole
+-- one chunk
+pub record ConsistentChunk (m : Module) (r : Report) (c : Chunk) : Type 0 where
+  -- the first instruction is recorded and takes in the chunk's printed inputs: an empty stack, and Unit in the other locals
+  pub begins : (s : State) × Recorded r (c .number) 0 s × TakesIn s (record { stack = []; locals = filled (c .locals) (getD (factsOf r .inputs) (c .number) []) })
+  -- wherever control may pass, the second instruction is recorded too and takes in what leaves the first on that way
+  pub passes : (i : ℕ) (s : State) → Recorded r (c .number) i s → (to : ℕ) (x : State) → Leaves m r c i s to x
+      → to < length (c .code) → (t : State) × Recorded r (c .number) to t × TakesIn t x
+  -- callee inputs, results and private facts take in what every recorded instruction gives
+  pub given : (i : ℕ) (s : State) → Recorded r (c .number) i s → GivenIn m (factsOf r) (gives (visitAt m r c i s))
+  -- no refusal follows: its operands are there, of proven kinds, packed, its height fits, and an inspection has what it looks at
+  pub fine : (i : ℕ) (s : State) → Recorded r (c .number) i s → Fine (visitAt m r c i s) s
+  -- each recorded instruction is one of the chunk, and reached from its first
+  pub inside : (i : ℕ) (s : State) → Recorded r (c .number) i s → i < length (c .code)
+  pub reached : (i : ℕ) (s : State) → Recorded r (c .number) i s → Reached m r c i
+
+pub record Consistent (m : Module) (r : Report) : Type 0 where
+  -- the signatures stand in the order of their chunks, and all facts have what is declared
+  pub numbered : map (λ x. x .chunk) (r .signatures) ≡ row (λ n. n) 0 (length (r .signatures))
+  pub declared : DeclaredIn m (factsOf r)
+  pub chunks : (c : Chunk) → List·Memᴰ c (m .chunks) → c .reachable ≡ true → ConsistentChunk m r c
+  -- an unreachable chunk has no records, and every record is of a chunk
+  pub none : (c : Chunk) → List·Memᴰ c (m .chunks) → c .reachable ≡ false → (i : ℕ) (s : State) → Recorded r (c .number) i s → ⊥
+  pub owned : (x : Record) → List·Memᴰ x (r .records) → (c : Chunk) × List·Memᴰ c (m .chunks) × (x .chunk ≡ c .number) × (c .reachable ≡ true)
+  -- the known branches and false inspections listed are those that the records show
+  pub branches : (b : Branch) → (List·Memᴰ b (r .branches) ↔ KnownBranch m r b)
+  pub inspections : (x : Inspection) → (List·Memᴰ x (r .inspections) ↔ FalseInspection m r x)

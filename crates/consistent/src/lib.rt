@@ -1,0 +1,1 @@
+// Demand 3, stated and proved of the definition: see specs/.
