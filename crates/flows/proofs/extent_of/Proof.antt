@@ -13,11 +13,9 @@ enum-known-width c = search needs
 range-requires : tie.Need-range-requires
 range-requires c κs = search needs
 
--- /work/leaves/target/rlib/extents.rlib/interface/lang/src/lib.rt:10:46
 enum-told : tie.Need-enum-told
 enum-told c = search needs
 
--- /work/leaves/target/rlib/extents.rlib/interface/lang/src/lib.rt:10:46
 enum-told-2 : tie.Need-enum-told-2
 enum-told-2 c = search needs
 

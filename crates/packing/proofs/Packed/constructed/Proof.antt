@@ -4,7 +4,6 @@ use borrow.Author.Needs.{needs}
 use Rattle.packing.proofs.Packed.constructed.Statement.{statement}
 use Rattle.packing.proofs.Packed.constructed.Tie as tie
 
--- /work/leaves/target/rlib/extents.rlib/interface/lang/src/lib.rt:10:46
 enum-told : tie.Need-enum-told
 enum-told c = search needs
 
