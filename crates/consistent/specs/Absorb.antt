@@ -28,7 +28,8 @@ use Rattle.definition.specs.Data.{isBody}
 use Rattle.definition.specs.Outputs.{noCell}
 use Rattle.definition.specs.Leaves.{joinAt, storedFlow, withFlows, writeFlow, writeMask, writeSlot, writeSlots, absorb, unionMasks, sameMasks, opened, closed, moved}
 use Rattle.definition.specs.Start.{firstFacts}
-use Rattle.consistent.specs.Basics.{or-left, or-right, or-true}
+use Rattle.goodform.specs.Tests.{or-left, or-right}
+use Rattle.consistent.specs.Basics.{or-true}
 use Rattle.consistent.specs.Rows.{Grows, grows-of, over, over-wider, taken-at, In, Wider, wider-refl, wider-trans, at-still, at-has, at-wider}
 use Rattle.consistent.specs.States.{cell-grows, cells-grows, cells-equals, cells-length}
 use Rattle.consistent.specs.Consistent.{Private}

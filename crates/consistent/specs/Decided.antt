@@ -21,7 +21,8 @@ use Rattle.definition.specs.Start.{agree, admission, admitted, firstFacts, over
 use Rattle.definition.specs.Report.{Report, reportOf}
 use Rattle.definition.specs.Call.{runOf, reported, turned, onRan, admittedRun, onReply, known, onAdmitted, decided, onForm, decide}
 use Rattle.worklist.specs.Limits.{accepted-same}
-use Rattle.consistent.specs.Basics.{or-left, or-right, and-off, some-inj}
+use Rattle.goodform.specs.Tests.{or-left, or-right, and-off}
+use Rattle.consistent.specs.Basics.{some-inj}
 
 -- what a run of the module was
 pub record Made (m : Module) (cap limit : ℕ) (r : Report) (n : ℕ) : Type 0 where

@@ -1,5 +1,5 @@
 -- The report of a run, read back: its records are the recorded states, chunk by chunk, and its cells of tags 17 and 18 are the facts.
-use Prim.Native.Nat.{ℕ, zero, suc, _+_, _<_, _≤_}
+use Prim.Native.Nat.{ℕ, zero, suc, _+_, _≤_}
 use native.Mathlib.Omega.{arith}
 use native.Mathlib.Nat.{add-zero, zero-add}
 use mathlib.Core.Path.{_≡_, refl, sym, _∙_, ap}
@@ -27,7 +27,8 @@ use Rattle.definition.specs.Start.{firstFacts}
 use Rattle.definition.specs.Report.{Record, signaturesFrom, slotCells, recordFrom, recordOf, fromState, fromStates, fromChunks, reportOf}
 use Rattle.consistent.specs.Rows.{wider-refl}
 use Rattle.consistent.specs.Absorb.{Declared}
-use Rattle.consistent.specs.Basics.{none≢some, some-inj, suc-out}
+use Rattle.goodform.specs.Each.{suc-out, row-length}
+use Rattle.consistent.specs.Basics.{none≢some, some-inj}
 use Rattle.consistent.specs.Consistent.{factsOf, stateOf, Recorded}
 
 -- ---- chunks beside their states
@@ -153,17 +154,6 @@ flows-back [] [] e = refl
 flows-back [] (w ∷ ws) e = absurd (omega arith)
 flows-back (m ∷ ms) [] e = absurd (omega arith)
 flows-back (m ∷ ms) (w ∷ ws) e = ap (λ (l : List Flow). w ∷ l) (flows-back ms ws (omega arith))
-
-pub row-length : {A : Type 0} (g : ℕ → A) (i n : ℕ) → length (row g i n) ≡ n
-unfolding row
-row-length g i zero = refl
-row-length g i (suc n) = ap suc (row-length g (suc i) n)
-
-pub row-at : {A : Type 0} (g : ℕ → A) (d : A) (i k n : ℕ) → n < k → getD (row g i k) n d ≡ g (i + n)
-unfolding row
-row-at g d i zero n h = absurd (omega arith)
-row-at g d i (suc k) zero h = ap g (sym (add-zero i))
-row-at g d i (suc k) (suc n) h = row-at g d (suc i) k n (omega arith) ∙ ap g (sym (suc-out i n))
 
 first-results : (m : Module) → length (firstFacts m .results) ≡ length (firstFacts m .inputs)
 unfolding firstFacts

@@ -23,6 +23,7 @@ use Rattle.definition.specs.Start.{initMask, admitted, firstFacts, knownOf}
 use Rattle.definition.specs.Report.{Report, Record, Branch, Inspection, reportOf, branchOf, inspectionOf}
 use Rattle.definition.specs.Call.{runOf, reported, decide}
 use Rattle.worklist.specs.Sweep.{Each, none-left, one-more}
+use Rattle.goodform.specs.Each.{row-at}
 use Rattle.consistent.specs.Basics.{none≢some}
 use Rattle.consistent.specs.Consistent.{Consistent, ConsistentChunk, Recorded, Reached, first, then, lineOf, GivenIn, Fine, DeclaredIn, Leaves, KnownBranch, FalseInspection, visitAt, factsOf, stateOf, TakesIn}
 use Rattle.consistent.specs.Shows.{Branches, Inspects, branch-shows, inspection-shows, shown-branch, shown-inspection}
@@ -30,7 +31,7 @@ use Rattle.consistent.specs.Rows.{taken-at}
 use Rattle.consistent.specs.States.{cell-grows, cells-grows, cells-over, all-in, takes-in}
 use Rattle.consistent.specs.Absorb.{Fits, Declared}
 use Rattle.consistent.specs.Visits.{accepted, after-none, start-length, start-first, begun}
-use Rattle.consistent.specs.Records.{Beside, beside-mem, Numbered, numbered, in-chunks, of-chunks, facts-back, first-declared, first-masks, row-at, all-flows, signatures-numbered, record-of, said, unsaid}
+use Rattle.consistent.specs.Records.{Beside, beside-mem, Numbered, numbered, in-chunks, of-chunks, facts-back, first-declared, first-masks, all-flows, signatures-numbered, record-of, said, unsaid}
 use Rattle.consistent.specs.Decided.{of-decide, Admitted, all-admitted}
 use Rattle.consistent.specs.Range.{CallsFit, Placed, placed}
 use Rattle.consistent.specs.Calls.{calls-fit}

@@ -23,7 +23,8 @@ use Rattle.definition.specs.Wants.{unfit}
 use Rattle.definition.specs.Ways.{branch, narrowing, along, onWay, leavingBy, leaving}
 use Rattle.definition.specs.Leaves.{Known, lineAt, noLine, visitOf, always, gives, unless, heightFault, visited, leaves}
 use Rattle.definition.specs.Start.{start, filled, stateFault, inspected, afterChunk}
-use Rattle.consistent.specs.Basics.{none≢some, suc-out}
+use Rattle.goodform.specs.Each.{suc-out}
+use Rattle.consistent.specs.Basics.{none≢some}
 use Rattle.consistent.specs.Consistent.{lineOf}
 
 -- ---- the effect of an accepted visit

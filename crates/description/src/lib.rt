@@ -1,7 +1,7 @@
 // The fields of a description, read at a place. Every read is total.
 ghost use mathlib.Core.Path.{_≡_};
 ghost use Prim.Native.Nat.{_+_, _<_, _^_};
-ghost use Rattle.description.specs.Fields.{tagAt, lenAt, nextAt, headerOf, chunkOf, tagsAt, paramsAt, paramsOf, paramOf, resultOf, shapeOf, instrOf, hasSite, yieldedOf, replyOf};
+ghost use Rattle.description.specs.Fields.{tagAt, lenAt, nextAt, tagsAt, paramsAt, paramsOf, paramOf, resultOf, shapeOf, hasSite, yieldedOf, replyOf};
 use le::u8_at;
 use le::u16_at;
 use le::u32_at;
@@ -60,35 +60,6 @@ pub fn next_at(s: &[u8], p: usize) -> usize
     p + 3 + (len_at(s, p) as usize)
 }
 
-pub fn header_at(s: &[u8], p: usize) -> Header
-    requires { ⌜ p < 2 ^ 62 ⌝ }
-    ensures { λ r. ⌜ r ≡ headerOf (now (s .entry)) p ⌝ }
-{
-    Header {
-        float: u8_at(s, p + 3),
-        entry: u16_at(s, p + 4),
-        chunks: u16_at(s, p + 6),
-        signatures: u16_at(s, p + 8),
-        layout: u8_at(s, p + 10),
-        slots: u16_at(s, p + 11),
-        owns: u8_at(s, p + 13),
-    }
-}
-
-pub fn chunk_at(s: &[u8], p: usize) -> ChunkHead
-    requires { ⌜ p < 2 ^ 62 ⌝ }
-    ensures { λ r. ⌜ r ≡ chunkOf (now (s .entry)) p ⌝ }
-{
-    ChunkHead {
-        reachable: u8_at(s, p + 3),
-        block: u8_at(s, p + 4),
-        locals: u16_at(s, p + 5),
-        stack: u16_at(s, p + 7),
-        arity: u8_at(s, p + 9),
-        tags: u8_at(s, p + 10),
-    }
-}
-
 // Where the type tags, the number of parameter shapes and the shapes of the chunk field at p stand.
 pub fn tags_at(p: usize) -> usize
     requires { ⌜ p < 2 ^ 62 ⌝ }
@@ -134,20 +105,6 @@ pub fn shape_at(s: &[u8], q: usize) -> Shape
         kind: u8_at(s, q + 1),
         width: u8_at(s, q + 2),
         size: u32_at(s, q + 3),
-    }
-}
-
-pub fn instr_at(s: &[u8], p: usize) -> Instr
-    requires { ⌜ p < 2 ^ 62 ⌝ }
-    ensures { λ r. ⌜ r ≡ instrOf (now (s .entry)) p ⌝ }
-{
-    Instr {
-        op: u8_at(s, p + 3),
-        taken: u8_at(s, p + 4),
-        given: u8_at(s, p + 5),
-        a: u32_at(s, p + 6),
-        b: u32_at(s, p + 10),
-        c: u32_at(s, p + 14),
     }
 }
 

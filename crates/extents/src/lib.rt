@@ -1,7 +1,7 @@
-// Extents: the size range of a body of one kind, and four of them, one for each body kind.
+// Extents: the size range of a body of one kind.
 ghost use mathlib.Core.Path.{_≡_};
 ghost use Prim.Native.Nat.{min, max};
-ghost use Rattle.extents.specs.Extent.{joinBody, sameBody, joinExtent, sameExtent, joinedExtent, extentMinimum, extentExact, exactWidth, joinBodies, sameBodies};
+ghost use Rattle.extents.specs.Extent.{joinBody, sameBody, joinExtent, sameExtent, joinedExtent, extentMinimum, extentExact, exactWidth};
 use widths::Width;
 
 // The size range of a body of one kind.
@@ -160,26 +160,4 @@ impl Extent {
             Size::Nothing => Width::Unknown,
         }
     }
-}
-
-// Four extents joined element by element, and handed back.
-pub fn join_bodies(a: [Extent; 4], b: [Extent; 4]) -> [Extent; 4]
-    ensures { λ r. ⌜ r ≡ joinBodies a b ⌝ }
-{
-    [
-        a[0].with(b[0]),
-        a[1].with(b[1]),
-        a[2].with(b[2]),
-        a[3].with(b[3]),
-    ]
-}
-
-pub fn same_bodies(a: [Extent; 4], b: [Extent; 4]) -> bool
-    ensures { λ r. ⌜ r ≡ sameBodies a b ⌝ }
-{
-    let s0 = a[0].same(b[0]);
-    let s1 = a[1].same(b[1]);
-    let s2 = a[2].same(b[2]);
-    let s3 = a[3].same(b[3]);
-    s0 & (s1 & (s2 & s3))
 }

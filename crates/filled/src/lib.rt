@@ -1,0 +1,10 @@
+// What the walk that fills the index keeps of the chunk at work. What it leaves is proved in specs/.
+pub struct Work {
+    // the chunks seen so far, where the numbers of the last stand, and its instructions so far
+    pub seen: usize,
+    pub numbers: usize,
+    pub instrs: usize,
+    // the next free word, and the words of a row
+    pub free: usize,
+    pub size: usize,
+}

@@ -1,0 +1,3 @@
+pub mod Within
+pub mod Walk
+pub mod Small

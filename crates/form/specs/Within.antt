@@ -1,0 +1,343 @@
+-- What a step over one field leaves within bounds.
+use mathlib.Core.Path.{_≡_, refl}
+use mathlib.Core.Bool.{Bool, true, false, not, cond, _&&_, _||_}
+use mathlib.Core.List.{List, _∷_}
+use Prim.Native.Nat.{ℕ, _+_, _-_, _<_, _≤_}
+use native.Mathlib.Omega.{arith}
+use Rattle.masks.specs.Both.{both}
+use Rattle.formrules.specs.Flags.{neither}
+use borrow.Author.Tests.{lt-ltb, ltb-true, ltb-false, eqb-true, ne-eqb, not-false}
+use lib.ListN.{length}
+use lib.Dec.{eqb, ltb, leb}
+use Rattle.answers.specs.declared.Refusal.{Refusal}
+use Rattle.description.specs.declared.Header.{Header}
+use Rattle.description.specs.declared.ChunkHead.{ChunkHead}
+use Rattle.description.specs.declared.Instr.{Instr}
+use Rattle.description.specs.Fields.{tagAt, lenAt, nextAt, headerOf, chunkOf, instrOf, tagsAt}
+use Rattle.description.specs.Walk.{next-after}
+use Rattle.definition.specs.declared.Scan.{Scan}
+use Rattle.definition.specs.declared.Step.{Step}
+use Rattle.definition.specs.declared.Step.the-variants.{Go, Stop}
+use Rattle.definition.specs.Module.{signedParams}
+use Rattle.definition.specs.Form.{nowhere, lowest, headerFault, chunkFault, chunkLen, tagsFine, signatureFine, fitOf, senseless, tooLarge, misplaced, unfitting, instrFault, siteFault, tableFault, orStop, inField, headerStep, chunkStep, instrStep, placed, siteStep, soFar, tableStep, fieldStep}
+use Rattle.late.specs.Counted.{counted}
+use Rattle.steps.specs.Bounds.{Bounded, so-far-le}
+
+-- ---- flags
+first-clear : (a b c d : Bool) → lowest a b c d ≡ 0 → a ≡ false
+first-clear true b c d h = absurd (omega arith)
+first-clear false b c d h = refl
+
+second-clear : (a b c d : Bool) → lowest a b c d ≡ 0 → b ≡ false
+second-clear true b c d h = absurd (omega arith)
+second-clear false true c d h = absurd (omega arith)
+second-clear false false c d h = refl
+
+four : (a b c d : Bool) → (a || b || c || d) ≡ false → (a ≡ false) × (b ≡ false) × (c ≡ false) × (d ≡ false)
+four a b c d h =
+    let x = neither (a || b || c) d h in
+    let y = neither (a || b) c (x .0) in
+    let z = neither a b (y .0) in
+    (z .0, z .1, y .1, x .1)
+
+-- ---- what a rule without fault says
+record HeaderFine (due : Bool) (len : ℕ) (h : Header) : Type 0 where
+  on : due ≡ true
+  size : len ≡ 15
+  chunks : h .chunks ≤ 64
+  signatures : h .signatures ≤ h .chunks
+  slots : h .slots ≤ 1024
+
+header-fine : (due : Bool) (len : ℕ) (h : Header) → headerFault due len h ≡ 0 → HeaderFine due len h
+unfolding headerFault
+header-fine due len h e =
+    let z : Bool = eqb (h .layout) 0 && not (eqb (h .slots) 0) in
+    let y : Bool = not due || not (eqb len 15) || ltb 1 (h .layout) || ltb 1 (h .owns) in
+    let b : Bool = ltb 31 (h .float) || ltb 64 (h .chunks) || ltb (h .chunks) (h .signatures) || ltb 1024 (h .slots) in
+    let c : Bool = leb (h .signatures) (h .entry) in
+    let one = neither y z (first-clear (y || z) b c false e) in
+    let ones = four (not due) (not (eqb len 15)) (ltb 1 (h .layout)) (ltb 1 (h .owns)) (one .0) in
+    let twos = four (ltb 31 (h .float)) (ltb 64 (h .chunks)) (ltb (h .chunks) (h .signatures)) (ltb 1024 (h .slots)) (second-clear (y || z) b c false e) in
+    record {
+      on = not-false due (ones .0);
+      size = eqb-true len 15 (not-false (eqb len 15) (ones .1));
+      chunks = ltb-false 64 (h .chunks) (twos .1);
+      signatures = ltb-false (h .chunks) (h .signatures) (twos .2);
+      slots = ltb-false 1024 (h .slots) (twos .3);
+    }
+
+record ChunkFine (s : List ℕ) (p : ℕ) (due signed : Bool) (h : ChunkHead) : Type 0 where
+  on : due ≡ true
+  locals : h .locals ≤ 256
+  stack : h .stack ≤ 64
+  params : signedParams s p signed ≤ 16
+
+chunk-fine : (s : List ℕ) (p : ℕ) (due : Bool) (len : ℕ) (signed : Bool) (h : ChunkHead) → chunkFault s p due len signed h ≡ 0
+    → ChunkFine s p due signed h
+unfolding chunkFault
+chunk-fine s p due len signed h e =
+    let x : Bool = eqb (chunkLen s p signed (h .tags)) len && tagsFine s (tagsAt p) (h .tags) && signatureFine s p signed in
+    let a : Bool = not due || not x || ltb 1 (h .reachable) || ltb 2 (h .block) in
+    let few : Bool = ltb 256 (h .locals) || ltb 64 (h .stack) || ltb 16 (h .arity) || ltb 16 (h .tags) in
+    let last : Bool = ltb 16 (signedParams s p signed) in
+    let c : Bool = ltb (h .locals) (signedParams s p signed) in
+    let ones = four (not due) (not x) (ltb 1 (h .reachable)) (ltb 2 (h .block)) (first-clear a (few || last) c false e) in
+    let two = neither few last (second-clear a (few || last) c false e) in
+    let twos = four (ltb 256 (h .locals)) (ltb 64 (h .stack)) (ltb 16 (h .arity)) (ltb 16 (h .tags)) (two .0) in
+    record {
+      on = not-false due (ones .0);
+      locals = ltb-false 256 (h .locals) (twos .0);
+      stack = ltb-false 64 (h .stack) (twos .1);
+      params = ltb-false 16 (signedParams s p signed) (two .1);
+    }
+
+record InstrFine (len : ℕ) (t : Scan) : Type 0 where
+  size : len ≡ 15
+  few : t .instrs ≤ 4095
+
+instr-fine : (due : Bool) (len : ℕ) (i : Instr) (t : Scan) → instrFault due len i t ≡ 0 → InstrFine len t
+unfolding instrFault
+instr-fine due len i t e =
+    let m : ℕ = fitOf (i .op) .meaning in
+    let a : Bool = not due || not (eqb len 15) || ltb 65 (i .op) || senseless m i in
+    let b : Bool = ltb 4095 (t .instrs) || ltb 64 (i .taken) || ltb 4 (i .given) || tooLarge m i in
+    let c : Bool = misplaced m i t in
+    let d : Bool = unfitting (fitOf (i .op)) i in
+    let ones = four (not due) (not (eqb len 15)) (ltb 65 (i .op)) (senseless m i) (first-clear a b c d e) in
+    let twos = four (ltb 4095 (t .instrs)) (ltb 64 (i .taken)) (ltb 4 (i .given)) (tooLarge m i) (second-clear a b c d e) in
+    record { size = eqb-true len 15 (not-false (eqb len 15) (ones .1)); few = ltb-false 4095 (t .instrs) (twos .0) }
+
+-- ---- what a step leaves
+pub record After (s : List ℕ) (p : ℕ) (t u : Scan) : Type 0 where
+  pub bound : Bounded u (nextAt s p)
+  pub count : (ps : List ℕ) → counted s (t .seen) (t .instrs) (p ∷ ps) ≡ counted s (u .seen) (u .instrs) ps
+
+abbrev Within : List ℕ → ℕ → Scan → Step → Type 0
+Within s p t (Go u) = After s p t u
+Within s p t (Stop r) = Unit
+
+pub widen : (t : Scan) (n m : ℕ) → Bounded t n → n ≤ m → Bounded t m
+widen t n m b h =
+    record {
+      chunks = b .chunks;
+      signatures = b .signatures;
+      seen = b .seen;
+      unseen = b .unseen;
+      instrs = b .instrs;
+      uncoded = b .uncoded;
+      locals = b .locals;
+      stack = b .stack;
+      count = omega arith;
+      cells = omega arith;
+    }
+
+abbrev headerNext : Header → Scan
+headerNext h =
+    record {
+      place = 1;
+      chunks = h .chunks;
+      signatures = h .signatures;
+      layout = h .layout;
+      seen = 0;
+      locals = 0;
+      stack = 0;
+      instrs = 0;
+      count = 0;
+      cells = 4 + h .slots;
+    }
+
+abbrev chunkNext : ChunkHead → ℕ → Scan → Scan
+chunkNext h params t =
+    record {
+      place = 2;
+      chunks = t .chunks;
+      signatures = t .signatures;
+      layout = t .layout;
+      seen = t .seen + 1;
+      locals = h .locals;
+      stack = h .stack;
+      instrs = 0;
+      count = t .count;
+      cells = t .cells + params + 2;
+    }
+
+abbrev instrNext : Scan → Scan
+instrNext t =
+    record {
+      place = 3;
+      chunks = t .chunks;
+      signatures = t .signatures;
+      layout = t .layout;
+      seen = t .seen;
+      locals = t .locals;
+      stack = t .stack;
+      instrs = t .instrs + 1;
+      count = t .count;
+      cells = t .cells + t .locals + t .stack + 6;
+    }
+
+module _ (s : List ℕ) (p : ℕ) (t : Scan) (b : Bounded t p) where
+  stop-within : (k : ℕ) (r : Refusal) (u : Scan) → (k ≡ 0 → After s p t u) → Within s p t (orStop k r u)
+  stop-within k r u f = go (eqb k 0) (λ e. f (eqb-true k 0 e))
+    where
+      go : (x : Bool) → (x ≡ true → After s p t u) → Within s p t (cond x (Go u) (Stop r))
+      go true g = g refl
+      go false g = tt
+
+  cond-within : (x : Bool) (a c : Step) → (x ≡ true → Within s p t a) → (x ≡ false → Within s p t c) → Within s p t (cond x a c)
+  cond-within true a c f g = f refl
+  cond-within false a c f g = g refl
+
+  header-after : tagAt s p ≡ 1 → HeaderFine (eqb (t .place) 0) (lenAt s p) (headerOf s p) → After s p t (headerNext (headerOf s p))
+  unfolding counted nextAt
+  header-after tag f =
+      let new : t .place ≡ 0 = eqb-true (t .place) 0 (f .on) in
+      let none : t .seen ≡ 0 = omega (arith, b .unseen, new) in
+      let fresh : t .instrs ≡ 0 = omega (arith, b .uncoded, new) in
+      record {
+        bound =
+            record {
+              chunks = f .chunks;
+              signatures = omega (arith, f .signatures, f .chunks);
+              seen = omega arith;
+              unseen = omega arith;
+              instrs = omega arith;
+              uncoded = omega arith;
+              locals = omega arith;
+              stack = omega arith;
+              count = omega arith;
+              cells = omega (arith, f .slots, f .size);
+            };
+        count = λ ps. rw (tag, none, fresh);
+      }
+
+  header-within : tagAt s p ≡ 1 → Within s p t (headerStep s p t)
+  unfolding headerStep
+  header-within tag =
+      let k : ℕ = headerFault (eqb (t .place) 0) (lenAt s p) (headerOf s p) in
+      stop-within k (nowhere k 0) (headerNext (headerOf s p))
+      (λ e. header-after tag (header-fine (eqb (t .place) 0) (lenAt s p) (headerOf s p) e))
+
+  chunk-after : (d signed : Bool) → tagAt s p ≡ 2 → (d && ltb (t .seen) (t .chunks)) ≡ true
+      → ChunkFine s p (d && ltb (t .seen) (t .chunks)) signed (chunkOf s p) → After s p t (chunkNext (chunkOf s p) (signedParams s p signed) t)
+  unfolding counted nextAt
+  chunk-after d signed tag on f =
+      let less : t .seen < t .chunks = ltb-true (t .seen) (t .chunks) (both d (ltb (t .seen) (t .chunks)) on .1) in
+      record {
+        bound =
+            record {
+              chunks = b .chunks;
+              signatures = b .signatures;
+              seen = omega arith;
+              unseen = omega (arith, b .chunks);
+              instrs = omega arith;
+              uncoded = omega arith;
+              locals = f .locals;
+              stack = f .stack;
+              count = omega (arith, b .count);
+              cells = omega (arith, b .cells, f .params);
+            };
+        count = λ ps. rw (tag, lt-ltb (t .seen) 64 (omega (arith, b .chunks)));
+      }
+
+  chunk-within : tagAt s p ≡ 2 → Within s p t (chunkStep s p t)
+  unfolding chunkStep
+  chunk-within tag =
+      let signed : Bool = ltb (t .seen) (t .signatures) in
+      let d : Bool = ltb 0 (t .place) && ltb (t .place) 5 in
+      let due : Bool = d && ltb (t .seen) (t .chunks) in
+      let k : ℕ = chunkFault s p due (lenAt s p) signed (chunkOf s p) in
+      stop-within k (inField k (t .seen) 65535) (chunkNext (chunkOf s p) (signedParams s p signed) t)
+      (λ e. let f = chunk-fine s p due (lenAt s p) signed (chunkOf s p) e in chunk-after d signed tag (f .on) f)
+
+  instr-within : tagAt s p ≡ 3 → Within s p t (instrStep s p t)
+  unfolding instrStep counted nextAt
+  instr-within tag =
+      let due : Bool = ltb 1 (t .place) && ltb (t .place) 5 in
+      let k : ℕ = instrFault due (lenAt s p) (instrOf s p) t in
+      stop-within k (inField k (t .seen - 1) (t .instrs)) (instrNext t)
+      (λ e.
+      let f = instr-fine due (lenAt s p) (instrOf s p) t e in
+      record {
+        bound =
+            record {
+              chunks = b .chunks;
+              signatures = b .signatures;
+              seen = b .seen;
+              unseen = omega (arith, b .seen, b .chunks);
+              instrs = omega (arith, f .few);
+              uncoded = omega (arith, f .few);
+              locals = b .locals;
+              stack = b .stack;
+              count = omega (arith, b .count);
+              cells = omega (arith, b .cells, b .locals, b .stack, f .size);
+            };
+        count = λ ps. rw (tag, lt-ltb (t .instrs) 4096 (omega (arith, f .few)));
+      })
+
+  -- a step that keeps all but the place and the count
+  placed-after : (tag count : ℕ) → 1 ≤ tag → count ≤ nextAt s p → (tagAt s p ≡ 2 → ⊥) → (tagAt s p ≡ 3 → ⊥) → After s p t (placed tag count t)
+  unfolding counted nextAt
+  placed-after tag count low few two three =
+      record {
+        bound =
+            record {
+              chunks = b .chunks;
+              signatures = b .signatures;
+              seen = b .seen;
+              unseen = omega (arith, b .seen, b .chunks);
+              instrs = b .instrs;
+              uncoded = omega (arith, b .instrs);
+              locals = b .locals;
+              stack = b .stack;
+              count = few;
+              cells = omega (arith, b .cells);
+            };
+        count = λ ps. rw (ne-eqb (tagAt s p) 2 two, ne-eqb (tagAt s p) 3 three);
+      }
+
+  site-within : tagAt s p ≡ 4 → Within s p t (siteStep s p t)
+  unfolding siteStep
+  site-within tag =
+      let k : ℕ = siteFault s p (eqb (t .place) 3) (lenAt s p) in
+      stop-within k (nowhere k 0) (placed 4 (t .count) t)
+      (λ e. placed-after 4 (t .count) (omega arith) (omega (arith, b .count, next-after s p)) (λ x. omega arith) (λ x. omega arith))
+
+  table-within : 4 < tagAt s p → Within s p t (tableStep s p (tagAt s p) t)
+  unfolding tableStep
+  table-within big =
+      let tag : ℕ = tagAt s p in
+      let due : Bool = ltb 0 (t .place) && leb (t .place) tag && (eqb tag 5 || eqb (t .layout) 1) in
+      let k : ℕ = tableFault s p tag due (lenAt s p) (soFar t tag) in
+      stop-within k (nowhere k 0) (placed tag (soFar t tag + 1) t)
+      (λ e. placed-after tag (soFar t tag + 1) (omega arith) (omega (arith, so-far-le t tag p (b .count), next-after s p)) (λ x. omega arith) (λ x. omega arith))
+
+  pub step-within : Within s p t (fieldStep s p t)
+  unfolding fieldStep
+  step-within =
+      let g : ℕ = tagAt s p in
+      let stop : Step = Stop (nowhere 1 0) in
+      let x5 : Step = cond (ltb 4 g && ltb g 9) (tableStep s p g t) stop in
+      let x4 : Step = cond (eqb g 4) (siteStep s p t) x5 in
+      let x3 : Step = cond (eqb g 3) (instrStep s p t) x4 in
+      let x2 : Step = cond (eqb g 2) (chunkStep s p t) x3 in
+      let x1 : Step = cond (eqb g 1) (headerStep s p t) x2 in
+      cond-within (ltb (length s) (nextAt s p)) stop x1 (λ e. tt)
+      (λ e0. cond-within (eqb g 1) (headerStep s p t) x2 (λ e. header-within (eqb-true g 1 e))
+      (λ e1. cond-within (eqb g 2) (chunkStep s p t) x3 (λ e. chunk-within (eqb-true g 2 e))
+      (λ e2. cond-within (eqb g 3) (instrStep s p t) x4 (λ e. instr-within (eqb-true g 3 e))
+      (λ e3. cond-within (eqb g 4) (siteStep s p t) x5 (λ e. site-within (eqb-true g 4 e))
+      (λ e4. cond-within (ltb 4 g && ltb g 9) (tableStep s p g t) stop
+      (λ e. table-within (ltb-true 4 g (both (ltb 4 g) (ltb g 9) e .0))) (λ e. tt))))))
+
+pub go-after : (s : List ℕ) (p : ℕ) (t u : Scan) → Bounded t p → fieldStep s p t ≡ Go u → After s p t u
+go-after s p t u b e = rw e at (step-within s p t b)
+
+-- a field that is passed fits the description
+pub go-inside : (s : List ℕ) (p : ℕ) (t u : Scan) → fieldStep s p t ≡ Go u → nextAt s p ≤ length s
+unfolding fieldStep
+go-inside s p t u e = go (ltb (length s) (nextAt s p)) refl
+  where
+    go : (x : Bool) → ltb (length s) (nextAt s p) ≡ x → nextAt s p ≤ length s
+    go true h = let f : _≡_ {A = Step} (Stop (nowhere 1 0)) (Go u) = rw h at e in let z : _≡_ {A = ℕ} 0 1 = cc in absurd (omega arith)
+    go false h = ltb-false (length s) (nextAt s p) h

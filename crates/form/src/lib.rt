@@ -1,0 +1,75 @@
+// The form checks: refusals 1 to 4, and the number of workspace words. One walk over the fields, in byte order; then the two late looks.
+// Nothing is written.
+use answers::Refusal;
+use answers::nowhere;
+use definition::Form;
+use definition::Scan;
+use definition::Step;
+use description::next_at;
+use late::late_look;
+use steps::field_step;
+ghost use mathlib.Core.Path.{_≡_};
+ghost use mathlib.Core.Bool.{true};
+ghost use Prim.Native.Nat.{_≤_, _^_};
+ghost use lib.ListN.{length};
+ghost use Rattle.description.specs.Fields.{fieldsFrom};
+ghost use Rattle.definition.specs.Form.{afterLook, finished, formOf};
+ghost use Rattle.late.specs.Counted.{counted};
+ghost use Rattle.steps.specs.Bounds.{Bounded};
+
+fn after_look(late: Refusal, words: u64) -> Form
+    ensures { λ r. ⌜ r ≡ afterLook late words ⌝ }
+{
+    if late.number == 0 {
+        return Form::Fine(words);
+    }
+    Form::Refused(late)
+}
+
+// After the last field: no header or a chunk missing is 1; then the late looks.
+fn finish(s: &[u8], scan: Scan) -> Form
+    requires { ⌜
+        (length (now s) ≤ 1048576) × Bounded scan (2 ^ 31)
+        × (counted (now s) 0 0 (fieldsFrom (now s) 0) ≡ true)
+        ⌝ }
+    ensures { λ r. ⌜ r ≡ finished (now (s .entry)) scan ⌝ }
+{
+    if (scan.place == 0) | (scan.seen < scan.chunks) {
+        return Form::Refused(nowhere(1, 0));
+    }
+    let late = late_look(s, scan.signatures);
+    after_look(late, 16 * scan.cells)
+}
+
+pub fn check_form(s: &[u8]) -> Form
+    ensures { λ r. ⌜ r ≡ formOf (now (s .entry)) ⌝ }
+{
+    if 1048576 < s.len() {
+        return Form::Refused(nowhere(2, 0));
+    }
+    let mut at: usize = 0;
+    let mut scan = Scan {
+        place: 0,
+        chunks: 0,
+        signatures: 0,
+        layout: 0,
+        seen: 0,
+        locals: 0,
+        stack: 0,
+        instrs: 0,
+        count: 0,
+        cells: 0,
+    };
+    while at < s.len() {
+        match field_step(s, at, scan) {
+            Step::Stop(r) => {
+                return Form::Refused(r);
+            }
+            Step::Go(next) => {
+                scan = next;
+                at = next_at(s, at);
+            }
+        }
+    }
+    finish(s, scan)
+}

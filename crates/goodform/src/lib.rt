@@ -1,0 +1,1 @@
+// What good form says of a description: see specs/.

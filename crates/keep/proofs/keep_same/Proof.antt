@@ -1,0 +1,60 @@
+-- `keep::keep_same` meets its contract: the words are copied, are there already, or are joined.
+use Rattle.keep.specs.Laws.{arrived-copied, arrived-there}
+use denote.Ref.{now}
+use mathlib.Core.Path.{sym, _∙_}
+use borrow.Author.Needs.{needs}
+use Rattle.keep.proofs.keep_same.Statement.{statement}
+use Rattle.keep.proofs.keep_same.Tie as tie
+
+copy16-requires : tie.Need-copy16-requires
+copy16-requires c κs = search needs
+
+same-length : tie.Need-same-length
+same-length c = search needs
+
+returns : tie.Need-returns
+returns c =
+    let a = c .before .before .before .before .before .before .args in
+    rw (c .before .before .before .before .if1 .taken)
+    (arrived-copied (a .from) (a .to) (now (a .ws)) _ (c .before .before .before .before .before .before .pre) (c .before .before .copy16 .ensures))
+
+same16-requires : tie.Need-same16-requires
+same16-requires c κs = search needs
+
+same-length-2 : tie.Need-same-length-2
+same-length-2 c = search needs
+
+returns-2 : tie.Need-returns-2
+returns-2 c =
+    let a = c .before .before .before .before .before .args in
+    rw (c .before .before .before .if1 .left)
+    (arrived-there (a .from) (a .to) (now (a .ws)) (sym (c .before .same16 .ensures) ∙ c .if2 .taken))
+
+load-requires : tie.Need-load-requires
+load-requires c κs = search needs
+
+join-one-requires : tie.Need-join-one-requires
+join-one-requires c κs = search needs
+
+same-length-3 : tie.Need-same-length-3
+same-length-3 c = search needs
+
+returns-3 : tie.Need-returns-3
+returns-3 c =
+    rw (c .before .before .before .before .before .before .before .before .before .if1 .left, ← c .before .before .before .load .ensures)
+    (c .before .before .join-one .ensures)
+
+pub keep-same-spec : {M : Type 1} → statement M
+keep-same-spec =
+    tie.close
+    (tie.spec
+    copy16-requires
+    same-length
+    returns
+    same16-requires
+    same-length-2
+    returns-2
+    load-requires
+    join-one-requires
+    same-length-3
+    returns-3)

@@ -1,0 +1,5 @@
+pub mod Layout
+pub mod Indexed
+pub mod Apart
+pub mod Read
+pub mod Kept

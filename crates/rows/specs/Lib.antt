@@ -1,0 +1,3 @@
+pub mod Leave
+pub mod Left
+pub mod Met

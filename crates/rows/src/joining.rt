@@ -1,0 +1,231 @@
+// What leaves an instruction along one way, joined into the row of its target.
+use cells::Cell;
+use definition::Made;
+use keep::join_one;
+use keep::keep_all;
+use keep::put_outputs;
+use layout::Chunk;
+use layout::NONE;
+use words::load;
+ghost use mathlib.Core.Path.{_≡_};
+ghost use mathlib.Core.Bool.{false};
+ghost use mathlib.Core.Logic.{_⊎_};
+ghost use Prim.Native.Nat.{_+_, _*_, _<_, _≤_};
+ghost use lib.ListN.{length, getD};
+ghost use Rattle.definition.specs.Module.{row};
+ghost use Rattle.words.specs.Layout.{cellAt};
+ghost use Rattle.words.specs.Rows.{cellsAt, Outside};
+ghost use Rattle.keep.specs.Arrive.{nowhere, Places, Arrived};
+ghost use Rattle.rows.specs.Leave.{Ready, keptLocals, keptStack, setOnWay, leavesKept, leavesReset, leavesAs, stateIn, metState, metHow, metWord, rowWords};
+ghost use Rattle.rows.specs.Left.{resetAt, howOf, Left};
+
+// The local that a visit sets, NONE where it sets none.
+pub struct SetLocal {
+    pub local: u16,
+    pub cell: Cell,
+}
+
+// What leaves a visit, whatever the way: its outputs, the local that it sets, whether it drops all else, and the height after it.
+pub struct Leaving {
+    pub made: Made,
+    pub set: SetLocal,
+    pub resets: bool,
+    pub height: usize,
+}
+
+// A way: the rows that it leads from and to, the stack places that are kept, and the local that is narrowed, or NONE.
+pub struct Way {
+    pub from: usize,
+    pub to: usize,
+    pub start: usize,
+    pub narrow: u16,
+}
+
+// How a way met its target.
+pub enum Met {
+    Same,
+    Changed,
+    Unequal,
+}
+
+// The locals, one of them taken as given.
+fn keep_around(
+    ws: &mut [u32],
+    from: usize,
+    to: usize,
+    n: usize,
+    fresh: bool,
+    set: SetLocal,
+    forget: u16,
+) -> bool
+    requires { ⌜ Places (now ws) from to n ⌝ }
+    requires { ⌜ set .local < n ⌝ }
+    ensures { λ r. ⌜ Arrived fresh to n (keptLocals set forget (cellsAt (now (ws .entry)) from n)) (now (ws .entry)) (now (ws .exit)) r ⌝ }
+{
+    let skip = set.local as usize;
+    let cell = set.cell;
+    let low = keep_all(ws, from, to, skip, fresh, forget, NONE);
+    let one = join_one(ws, to + 16 * skip, fresh, cell);
+    let on = 16 * (skip + 1);
+    let high = keep_all(ws, from + on, to + on, n - skip - 1, fresh, forget, NONE);
+    low | one | high
+}
+
+// The locals; the one that is set or narrowed may be none of them.
+fn keep_locals(
+    ws: &mut [u32],
+    from: usize,
+    to: usize,
+    n: usize,
+    fresh: bool,
+    set: SetLocal,
+    forget: u16,
+) -> bool
+    requires { ⌜ Places (now ws) from to n ⌝ }
+    ensures { λ r. ⌜ Arrived fresh to n (keptLocals set forget (cellsAt (now (ws .entry)) from n)) (now (ws .entry)) (now (ws .exit)) r ⌝ }
+{
+    let skip = set.local as usize;
+    if n <= skip {
+        return keep_all(ws, from, to, n, fresh, forget, NONE);
+    }
+    keep_around(ws, from, to, n, fresh, set, forget)
+}
+
+fn reset_cell(reply: Cell, streams: bool, k: usize) -> Cell
+    ensures { λ r. ⌜ r ≡ resetAt streams reply k ⌝ }
+{
+    if streams & (k == 0) {
+        return reply;
+    }
+    Cell::unit()
+}
+
+// After `Reset` every local is Unit but the first of a streaming entry, which is the reply.
+fn reset_locals(
+    ws: &mut [u32],
+    to: usize,
+    n: usize,
+    fresh: bool,
+    reply: Cell,
+    streams: bool,
+) -> bool
+    requires { ⌜ to + 16 * n ≤ length (now ws) ⌝ }
+    ensures { λ r. ⌜ Arrived fresh to n (row (resetAt streams reply) 0 n) (now (ws .entry)) (now (ws .exit)) r ⌝ }
+{
+    let mut k = 0;
+    let mut changed = false;
+    while k < n {
+        changed = changed | join_one(ws, to + 16 * k, fresh, reset_cell(reply, streams, k));
+        k += 1;
+    }
+    changed
+}
+
+fn leave_reset(ws: &mut [u32], ch: Chunk, w: Way, fresh: bool, l: Leaving) -> bool
+    requires { ⌜ Ready (now ws) ch w l ⌝ }
+    ensures { λ r. ⌜
+        Left fresh ch (w .to) (l .height)
+        (leavesReset l (ch .streams) (cellAt (now (ws .entry)) 0) (cellsAt (now (ws .entry)) (w .from + 96 + 16 * ch .stack) (ch .locals)))
+        (now (ws .entry)) (now (ws .exit)) r
+        ⌝ }
+{
+    let made = l.made;
+    let stack = w.to + 96;
+    let locals = stack + 16 * ch.stack;
+    let reply = load(ws, 0);
+    let a = put_outputs(ws, stack, l.height, fresh, made);
+    let b = reset_locals(ws, locals, ch.locals, fresh, reply, ch.streams);
+    a | b
+}
+
+// The stack: what is kept, then the outputs.
+fn leave_stack(ws: &mut [u32], w: Way, fresh: bool, l: Leaving) -> bool
+    requires { ⌜ Places (now ws) (w .from + 96) (w .to + 96) (w .start) ⌝ }
+    requires { ⌜ (w .start ≤ l .height) × (w .to + 96 + 16 * l .height ≤ length (now ws)) ⌝ }
+    ensures { λ r. ⌜
+        Arrived fresh (w .to + 96) (l .height) (keptStack l (w .narrow) (cellsAt (now (ws .entry)) (w .from + 96) (w .start)))
+        (now (ws .entry)) (now (ws .exit)) r
+        ⌝ }
+{
+    let made = l.made;
+    let set = l.set;
+    let to = w.to + 96;
+    let a = keep_all(ws, w.from + 96, to, w.start, fresh, set.local, w.narrow);
+    let b = put_outputs(ws, to + 16 * w.start, l.height - w.start, fresh, made);
+    a | b
+}
+
+// The local that is set, or the one that is narrowed, as it leaves.
+fn set_on_way(ws: &[u32], ch: Chunk, w: Way, set: SetLocal) -> SetLocal
+    requires { ⌜ w .from + rowWords ch ≤ length (now ws) ⌝ }
+    requires { ⌜ (w .narrow ≡ nowhere) ⊎ (w .narrow < ch .locals) ⌝ }
+    ensures { λ r. ⌜ r ≡ setOnWay set (w .narrow) (cellsAt (now (ws .entry)) (w .from + 96 + 16 * ch .stack) (ch .locals)) ⌝ }
+{
+    if w.narrow == NONE {
+        return set;
+    }
+    let c = load(ws, w.from + 96 + 16 * ch.stack + 16 * (w.narrow as usize));
+    SetLocal {
+        local: w.narrow,
+        cell: c.narrow_enum(),
+    }
+}
+
+fn leave_kept(ws: &mut [u32], ch: Chunk, w: Way, fresh: bool, l: Leaving) -> bool
+    requires { ⌜ Ready (now ws) ch w l ⌝ }
+    requires { ⌜ l .resets ≡ false ⌝ }
+    ensures { λ r. ⌜
+        Left fresh ch (w .to) (l .height)
+        (leavesKept l (w .narrow) (cellsAt (now (ws .entry)) (w .from + 96) (w .start))
+        (cellsAt (now (ws .entry)) (w .from + 96 + 16 * ch .stack) (ch .locals)))
+        (now (ws .entry)) (now (ws .exit)) r
+        ⌝ }
+{
+    let given = l.set;
+    let set = set_on_way(ws, ch, w, given);
+    let from = w.from + 96 + 16 * ch.stack;
+    let to = w.to + 96 + 16 * ch.stack;
+    let a = leave_stack(ws, w, fresh, l);
+    let b = keep_locals(ws, from, to, ch.locals, fresh, set, given.local);
+    a | b
+}
+
+fn leave_by(ws: &mut [u32], ch: Chunk, w: Way, fresh: bool, l: Leaving) -> bool
+    requires { ⌜ Ready (now ws) ch w l ⌝ }
+    ensures { λ r. ⌜ Left fresh ch (w .to) (l .height) (leavesAs (now (ws .entry)) ch w l) (now (ws .entry)) (now (ws .exit)) r ⌝ }
+{
+    if l.resets {
+        return leave_reset(ws, ch, w, fresh, l);
+    }
+    leave_kept(ws, ch, w, fresh, l)
+}
+
+fn how(changed: bool) -> Met
+    ensures { λ r. ⌜ r ≡ howOf changed ⌝ }
+{
+    if changed { Met::Changed } else { Met::Same }
+}
+
+// Joins what leaves into the row of the target; a row of another height is left as it is.
+pub fn leave(ws: &mut [u32], ch: Chunk, w: Way, l: Leaving) -> Met
+    requires { ⌜ Ready (now ws) ch w l ⌝ }
+    ensures { λ r. ⌜
+        (stateIn (now (ws .exit)) (w .to) (ch .stack) (ch .locals)
+        ≡ metState (stateIn (now (ws .entry)) (w .to) (ch .stack) (ch .locals)) (leavesAs (now (ws .entry)) ch w l))
+        × (r ≡ metHow (stateIn (now (ws .entry)) (w .to) (ch .stack) (ch .locals)) (leavesAs (now (ws .entry)) ch w l))
+        × Outside (w .to) (w .to + rowWords ch) (now (ws .entry)) (now (ws .exit))
+        × (getD (now (ws .exit)) (w .to + 1) 0 ≡ getD (now (ws .entry)) (w .to + 1) 0)
+        × (getD (now (ws .exit)) (w .to) 0 ≡ metWord (getD (now (ws .entry)) (w .to) 0) (l .height))
+        ⌝ }
+{
+    let to = w.to;
+    let height = l.height + 1;
+    let state = ws[to] as usize;
+    if (state != 0) & (state != height) {
+        return Met::Unequal;
+    }
+    let fresh = state == 0;
+    let changed = leave_by(ws, ch, w, fresh, l);
+    ws[to] = height as u32;
+    how(changed | fresh)
+}

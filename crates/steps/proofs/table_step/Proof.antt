@@ -1,0 +1,42 @@
+-- `steps::table_step` meets its contract.
+use Rattle.steps.specs.Bounds.{so-far-le}
+use Prim.Native.Nat.{_^_}
+use native.Mathlib.Omega.{arith}
+use Rattle.definition.specs.Form.{tableStep}
+use borrow.Author.Needs.{needs}
+use Rattle.steps.proofs.table_step.Statement.{statement}
+use Rattle.steps.proofs.table_step.Tie as tie
+
+so-far-requires : tie.Need-so-far-requires
+so-far-requires c κs = search needs
+
+len-at-requires : tie.Need-len-at-requires
+len-at-requires c κs = search needs
+
+table-fault-requires : tie.Need-table-fault-requires
+table-fault-requires c κs = search needs
+
+nowhere-requires : tie.Need-nowhere-requires
+nowhere-requires c κs = search needs
+
+add-t16 : tie.Need-add-t16
+add-t16 c = omega (arith, c .before .before .before .before .before .before .before .before .pre .1 .count, so-far-le (c .before .before .before .before .before .before .before .before .args .scan) (c .before .before .before .before .before .before .before .before .args .tag) (2 ^ 31) (c .before .before .before .before .before .before .before .before .pre .1 .count))
+
+or-stop-requires : tie.Need-or-stop-requires
+or-stop-requires c κs = search needs
+
+returns : tie.Need-returns
+unfolding tableStep
+returns c = cc
+
+pub table-step-spec : {M : Type 1} → statement M
+table-step-spec =
+    tie.close
+    (tie.spec
+    so-far-requires
+    len-at-requires
+    table-fault-requires
+    nowhere-requires
+    add-t16
+    or-stop-requires
+    returns)

@@ -1,0 +1,4 @@
+pub mod Layout
+pub mod Laws
+pub mod Rows
+pub mod RowLaws
