@@ -36,3 +36,14 @@ pub(crate) fn verbatim(
 ) -> Result<crate::found::Found, crate::LowerError> {
     types::check(m, entry, plan).map(|analysis| analysis.found())
 }
+
+/// The time of `check` alone, and whether it accepts.
+pub(crate) fn timed(
+    m: &keleusma::bytecode::Module,
+    entry: usize,
+    plan: dialogue::Plan,
+) -> (std::time::Duration, bool) {
+    let start = crate::timing::now();
+    let found = types::check(m, entry, plan);
+    (crate::timing::now() - start, found.is_ok())
+}

@@ -18,6 +18,7 @@ pub mod pool;
 pub mod report;
 pub mod run;
 pub mod text;
+pub mod timing;
 
 #[derive(Debug, Clone, Copy, PartialEq, Eq)]
 pub(crate) enum Width {
