@@ -6,8 +6,8 @@ use borrow.Author.Needs.{needs}
 use borrow.Author.Tests.{lt-ltb}
 use lib.ListN.{length}
 use Rattle.definition.specs.Form.{formOf}
-use Rattle.form.specs.Within.{widen}
-use Rattle.form.specs.Walk.{Walking, walk-start, walk-go, walk-stop, walk-end, walk-counted}
+use Rattle.form.proofs.Within.{widen}
+use Rattle.form.proofs.Walk.{Walking, walk-start, walk-go, walk-stop, walk-end, walk-counted}
 use Rattle.form.proofs.check_form.Statement.{statement}
 use Rattle.form.proofs.check_form.Tie as tie
 

@@ -1,111 +1,26 @@
 -- What a step over one field leaves within bounds.
 use mathlib.Core.Path.{_≡_, refl}
-use mathlib.Core.Bool.{Bool, true, false, not, cond, _&&_, _||_}
+use mathlib.Core.Bool.{Bool, true, false, cond, _&&_, _||_}
 use mathlib.Core.List.{List, _∷_}
 use Prim.Native.Nat.{ℕ, _+_, _-_, _<_, _≤_}
 use native.Mathlib.Omega.{arith}
 use Rattle.masks.specs.Both.{both}
-use Rattle.formrules.specs.Flags.{neither}
-use borrow.Author.Tests.{lt-ltb, ltb-true, ltb-false, eqb-true, ne-eqb, not-false}
+use Rattle.goodform.specs.Faults.{HeaderFine, header-fine, ChunkFine, chunk-fine, instr-fine}
+use borrow.Author.Tests.{lt-ltb, ltb-true, ltb-false, eqb-true, ne-eqb}
 use lib.ListN.{length}
 use lib.Dec.{eqb, ltb, leb}
 use Rattle.answers.specs.declared.Refusal.{Refusal}
 use Rattle.description.specs.declared.Header.{Header}
 use Rattle.description.specs.declared.ChunkHead.{ChunkHead}
-use Rattle.description.specs.declared.Instr.{Instr}
-use Rattle.description.specs.Fields.{tagAt, lenAt, nextAt, headerOf, chunkOf, instrOf, tagsAt}
+use Rattle.description.specs.Fields.{tagAt, lenAt, nextAt, headerOf, chunkOf, instrOf}
 use Rattle.description.specs.Walk.{next-after}
 use Rattle.definition.specs.declared.Scan.{Scan}
 use Rattle.definition.specs.declared.Step.{Step}
 use Rattle.definition.specs.declared.Step.the-variants.{Go, Stop}
 use Rattle.definition.specs.Module.{signedParams}
-use Rattle.definition.specs.Form.{nowhere, lowest, headerFault, chunkFault, chunkLen, tagsFine, signatureFine, fitOf, senseless, tooLarge, misplaced, unfitting, instrFault, siteFault, tableFault, orStop, inField, headerStep, chunkStep, instrStep, placed, siteStep, soFar, tableStep, fieldStep}
+use Rattle.definition.specs.Form.{nowhere, headerFault, chunkFault, instrFault, siteFault, tableFault, orStop, inField, headerStep, chunkStep, instrStep, placed, siteStep, soFar, tableStep, fieldStep}
 use Rattle.late.specs.Counted.{counted}
 use Rattle.steps.specs.Bounds.{Bounded, so-far-le}
-
--- ---- flags
-first-clear : (a b c d : Bool) → lowest a b c d ≡ 0 → a ≡ false
-first-clear true b c d h = absurd (omega arith)
-first-clear false b c d h = refl
-
-second-clear : (a b c d : Bool) → lowest a b c d ≡ 0 → b ≡ false
-second-clear true b c d h = absurd (omega arith)
-second-clear false true c d h = absurd (omega arith)
-second-clear false false c d h = refl
-
-four : (a b c d : Bool) → (a || b || c || d) ≡ false → (a ≡ false) × (b ≡ false) × (c ≡ false) × (d ≡ false)
-four a b c d h =
-    let x = neither (a || b || c) d h in
-    let y = neither (a || b) c (x .0) in
-    let z = neither a b (y .0) in
-    (z .0, z .1, y .1, x .1)
-
--- ---- what a rule without fault says
-record HeaderFine (due : Bool) (len : ℕ) (h : Header) : Type 0 where
-  on : due ≡ true
-  size : len ≡ 15
-  chunks : h .chunks ≤ 64
-  signatures : h .signatures ≤ h .chunks
-  slots : h .slots ≤ 1024
-
-header-fine : (due : Bool) (len : ℕ) (h : Header) → headerFault due len h ≡ 0 → HeaderFine due len h
-unfolding headerFault
-header-fine due len h e =
-    let z : Bool = eqb (h .layout) 0 && not (eqb (h .slots) 0) in
-    let y : Bool = not due || not (eqb len 15) || ltb 1 (h .layout) || ltb 1 (h .owns) in
-    let b : Bool = ltb 31 (h .float) || ltb 64 (h .chunks) || ltb (h .chunks) (h .signatures) || ltb 1024 (h .slots) in
-    let c : Bool = leb (h .signatures) (h .entry) in
-    let one = neither y z (first-clear (y || z) b c false e) in
-    let ones = four (not due) (not (eqb len 15)) (ltb 1 (h .layout)) (ltb 1 (h .owns)) (one .0) in
-    let twos = four (ltb 31 (h .float)) (ltb 64 (h .chunks)) (ltb (h .chunks) (h .signatures)) (ltb 1024 (h .slots)) (second-clear (y || z) b c false e) in
-    record {
-      on = not-false due (ones .0);
-      size = eqb-true len 15 (not-false (eqb len 15) (ones .1));
-      chunks = ltb-false 64 (h .chunks) (twos .1);
-      signatures = ltb-false (h .chunks) (h .signatures) (twos .2);
-      slots = ltb-false 1024 (h .slots) (twos .3);
-    }
-
-record ChunkFine (s : List ℕ) (p : ℕ) (due signed : Bool) (h : ChunkHead) : Type 0 where
-  on : due ≡ true
-  locals : h .locals ≤ 256
-  stack : h .stack ≤ 64
-  params : signedParams s p signed ≤ 16
-
-chunk-fine : (s : List ℕ) (p : ℕ) (due : Bool) (len : ℕ) (signed : Bool) (h : ChunkHead) → chunkFault s p due len signed h ≡ 0
-    → ChunkFine s p due signed h
-unfolding chunkFault
-chunk-fine s p due len signed h e =
-    let x : Bool = eqb (chunkLen s p signed (h .tags)) len && tagsFine s (tagsAt p) (h .tags) && signatureFine s p signed in
-    let a : Bool = not due || not x || ltb 1 (h .reachable) || ltb 2 (h .block) in
-    let few : Bool = ltb 256 (h .locals) || ltb 64 (h .stack) || ltb 16 (h .arity) || ltb 16 (h .tags) in
-    let last : Bool = ltb 16 (signedParams s p signed) in
-    let c : Bool = ltb (h .locals) (signedParams s p signed) in
-    let ones = four (not due) (not x) (ltb 1 (h .reachable)) (ltb 2 (h .block)) (first-clear a (few || last) c false e) in
-    let two = neither few last (second-clear a (few || last) c false e) in
-    let twos = four (ltb 256 (h .locals)) (ltb 64 (h .stack)) (ltb 16 (h .arity)) (ltb 16 (h .tags)) (two .0) in
-    record {
-      on = not-false due (ones .0);
-      locals = ltb-false 256 (h .locals) (twos .0);
-      stack = ltb-false 64 (h .stack) (twos .1);
-      params = ltb-false 16 (signedParams s p signed) (two .1);
-    }
-
-record InstrFine (len : ℕ) (t : Scan) : Type 0 where
-  size : len ≡ 15
-  few : t .instrs ≤ 4095
-
-instr-fine : (due : Bool) (len : ℕ) (i : Instr) (t : Scan) → instrFault due len i t ≡ 0 → InstrFine len t
-unfolding instrFault
-instr-fine due len i t e =
-    let m : ℕ = fitOf (i .op) .meaning in
-    let a : Bool = not due || not (eqb len 15) || ltb 65 (i .op) || senseless m i in
-    let b : Bool = ltb 4095 (t .instrs) || ltb 64 (i .taken) || ltb 4 (i .given) || tooLarge m i in
-    let c : Bool = misplaced m i t in
-    let d : Bool = unfitting (fitOf (i .op)) i in
-    let ones = four (not due) (not (eqb len 15)) (ltb 65 (i .op)) (senseless m i) (first-clear a b c d e) in
-    let twos = four (ltb 4095 (t .instrs)) (ltb 64 (i .taken)) (ltb 4 (i .given)) (tooLarge m i) (second-clear a b c d e) in
-    record { size = eqb-true len 15 (not-false (eqb len 15) (ones .1)); few = ltb-false 4095 (t .instrs) (twos .0) }
 
 -- ---- what a step leaves
 pub record After (s : List ℕ) (p : ℕ) (t u : Scan) : Type 0 where
@@ -188,10 +103,10 @@ module _ (s : List ℕ) (p : ℕ) (t : Scan) (b : Bounded t p) where
   cond-within true a c f g = f refl
   cond-within false a c f g = g refl
 
-  header-after : tagAt s p ≡ 1 → HeaderFine (eqb (t .place) 0) (lenAt s p) (headerOf s p) → After s p t (headerNext (headerOf s p))
+  header-after : tagAt s p ≡ 1 → eqb (t .place) 0 ≡ true → HeaderFine (lenAt s p) (headerOf s p) → After s p t (headerNext (headerOf s p))
   unfolding counted nextAt
-  header-after tag f =
-      let new : t .place ≡ 0 = eqb-true (t .place) 0 (f .on) in
+  header-after tag on f =
+      let new : t .place ≡ 0 = eqb-true (t .place) 0 on in
       let none : t .seen ≡ 0 = omega (arith, b .unseen, new) in
       let fresh : t .instrs ≡ 0 = omega (arith, b .uncoded, new) in
       record {
@@ -206,7 +121,7 @@ module _ (s : List ℕ) (p : ℕ) (t : Scan) (b : Bounded t p) where
               locals = omega arith;
               stack = omega arith;
               count = omega arith;
-              cells = omega (arith, f .slots, f .size);
+              cells = omega (arith, f .slots, f .len);
             };
         count = λ ps. rw (tag, none, fresh);
       }
@@ -216,10 +131,10 @@ module _ (s : List ℕ) (p : ℕ) (t : Scan) (b : Bounded t p) where
   header-within tag =
       let k : ℕ = headerFault (eqb (t .place) 0) (lenAt s p) (headerOf s p) in
       stop-within k (nowhere k 0) (headerNext (headerOf s p))
-      (λ e. header-after tag (header-fine (eqb (t .place) 0) (lenAt s p) (headerOf s p) e))
+      (λ e. let f = header-fine (eqb (t .place) 0) (lenAt s p) (headerOf s p) e in header-after tag (f .0) (f .1))
 
   chunk-after : (d signed : Bool) → tagAt s p ≡ 2 → (d && ltb (t .seen) (t .chunks)) ≡ true
-      → ChunkFine s p (d && ltb (t .seen) (t .chunks)) signed (chunkOf s p) → After s p t (chunkNext (chunkOf s p) (signedParams s p signed) t)
+      → ChunkFine (lenAt s p) (signedParams s p signed) (chunkOf s p) → After s p t (chunkNext (chunkOf s p) (signedParams s p signed) t)
   unfolding counted nextAt
   chunk-after d signed tag on f =
       let less : t .seen < t .chunks = ltb-true (t .seen) (t .chunks) (both d (ltb (t .seen) (t .chunks)) on .1) in
@@ -248,7 +163,7 @@ module _ (s : List ℕ) (p : ℕ) (t : Scan) (b : Bounded t p) where
       let due : Bool = d && ltb (t .seen) (t .chunks) in
       let k : ℕ = chunkFault s p due (lenAt s p) signed (chunkOf s p) in
       stop-within k (inField k (t .seen) 65535) (chunkNext (chunkOf s p) (signedParams s p signed) t)
-      (λ e. let f = chunk-fine s p due (lenAt s p) signed (chunkOf s p) e in chunk-after d signed tag (f .on) f)
+      (λ e. let f = chunk-fine s p due (lenAt s p) signed (chunkOf s p) e in chunk-after d signed tag (f .0) (f .1))
 
   instr-within : tagAt s p ≡ 3 → Within s p t (instrStep s p t)
   unfolding instrStep counted nextAt
@@ -257,7 +172,7 @@ module _ (s : List ℕ) (p : ℕ) (t : Scan) (b : Bounded t p) where
       let k : ℕ = instrFault due (lenAt s p) (instrOf s p) t in
       stop-within k (inField k (t .seen - 1) (t .instrs)) (instrNext t)
       (λ e.
-      let f = instr-fine due (lenAt s p) (instrOf s p) t e in
+      let f = instr-fine due (lenAt s p) (instrOf s p) t e .1 in
       record {
         bound =
             record {
@@ -265,14 +180,14 @@ module _ (s : List ℕ) (p : ℕ) (t : Scan) (b : Bounded t p) where
               signatures = b .signatures;
               seen = b .seen;
               unseen = omega (arith, b .seen, b .chunks);
-              instrs = omega (arith, f .few);
-              uncoded = omega (arith, f .few);
+              instrs = omega (arith, f .count);
+              uncoded = omega (arith, f .count);
               locals = b .locals;
               stack = b .stack;
               count = omega (arith, b .count);
-              cells = omega (arith, b .cells, b .locals, b .stack, f .size);
+              cells = omega (arith, b .cells, b .locals, b .stack, f .len);
             };
-        count = λ ps. rw (tag, lt-ltb (t .instrs) 4096 (omega (arith, f .few)));
+        count = λ ps. rw (tag, lt-ltb (t .instrs) 4096 (omega (arith, f .count)));
       })
 
   -- a step that keeps all but the place and the count
