@@ -1,4 +1,4 @@
--- The walk over the fields of a description of good form, in words that are 0, leaves its index.
+-- The walk over the fields of a description of good form leaves its index, where the words of the slots are 0.
 use Prim.Native.Nat.{ℕ, zero, suc, _+_, _*_, _-_, _/_, _%_, _<_, _≤_}
 use mathlib.Core.Path.{_≡_, refl, sym, ap, _∙_}
 use mathlib.Core.Bool.{Bool, true, false, not, cond}
@@ -107,7 +107,7 @@ fresh-slot ws a m s f z = holds-cell ws a (freshSlot m) (fresh-fit m s) (record 
         ap (λ (i : ℕ). getD ws i 0) e ∙ f ∙ sym (fresh-first m)
     go (suc k) h = z (suc k) (omega arith) h ∙ sym (fresh-words m (suc k) (omega arith) h)
 
-module _ (s ws : List ℕ) (q : ℕ) (g : Good s q) (room : q ≤ length ws) (zeros : (k : ℕ) → k < q → getD ws k 0 ≡ 0) where
+module _ (s ws : List ℕ) (q : ℕ) (g : Good s q) (room : q ≤ length ws) (zeros : (k : ℕ) → k < 64 + 16 * (headerOf s 0 .chunks + headerOf s 0 .slots) → getD ws k 0 ≡ 0) where
   abbrev first : Tables
   first = firstTables s q
 
@@ -168,7 +168,8 @@ module _ (s ws : List ℕ) (q : ℕ) (g : Good s q) (room : q ≤ length ws) (ze
   slot-is n h = rw (module-is s q g) at h
 
   none-yet : (n j : ℕ) → n < first .slots → j < 16 → getD ws (slotOf first n + j) 0 ≡ 0
-  none-yet n j h l = zeros (slotOf first n + j) (omega (arith, room-first s q g))
+  unfolding firstTables
+  none-yet n j h l = zeros (slotOf first n + j) (omega arith)
 
   mark-word : (n : ℕ) → n < moduleOf s .slots → getD last (slotAt (moduleOf s) n + 15) 0 ≡ cond (isBody (moduleOf s) n) 65536 0
   unfolding isBody moduleFrom

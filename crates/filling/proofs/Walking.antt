@@ -7,7 +7,8 @@ use native.Mathlib.Omega.{arith}
 use borrow.Author.Tests.{eq-eqb, ne-eqb}
 use lib.Dec.{eqb}
 use lib.Pow.{pow-lt}
-use lib.ListN.{length, getD}
+use lib.ListN.{length, getD, set, length-set}
+use lib.Seq.{getD-set-same, getD-set-other}
 use Rattle.description.specs.declared.Header.{Header}
 use Rattle.description.specs.Fields.{tagAt, nextAt, headerOf, fieldsFrom}
 use Rattle.description.specs.Walk.{next-after, fields-turn, fields-end}
@@ -15,6 +16,7 @@ use Rattle.definition.specs.Module.{codeAfter, chunksFrom}
 use Rattle.goodform.specs.Good.{Good}
 use Rattle.layout.specs.declared.Tables.{Tables}
 use Rattle.layout.specs.Indexed.{tablesOf, Indexed, Fresh}
+use Rattle.layout.specs.Apart.{by-order}
 use Rattle.filled.specs.declared.Work.{Work}
 use Rattle.filled.specs.Model.{areas, oneMore, firstTables, firstWork, codeWords, codeWork, slotWords, tablesAfter, wordsAfter, wordsFrom, tablesFrom}
 use Rattle.filled.specs.Room.{Room, areasIn, area-of, room-after}
@@ -139,10 +141,32 @@ going-next s begin ws v x q t u w y at next tag g h e ey ev ex eu en l =
 
 -- ---- the end
 pub going-done : (s begin : List ℕ) (q : ℕ) (ws : List ℕ) (t : Tables) (w : Work) (at : ℕ) → Going s begin q ws t w at → length s ≤ at
-    → Good s q → q ≤ length begin → ((k : ℕ) → k < q → getD begin k 0 ≡ 0)
+    → Good s q → q ≤ length begin → ((k : ℕ) → k < 64 + 16 * (headerOf s 0 .chunks + headerOf s 0 .slots) → getD begin k 0 ≡ 0)
     → (t ≡ tablesOf s) × Indexed s ws × Fresh s ws × (length ws ≡ length begin)
 unfolding wordsFrom tablesFrom
 going-done s begin q ws t w at g h good l z =
     let x = rw (fields-end s at h) at (g .words) in
     let y = rw (fields-end s at h) at (g .tables) in
     (y ∙ tables-hold s begin q good l z, rw x (index-holds s begin q good l z), rw x (all-fresh s begin q good l z), g .long)
+
+-- ---- the words cleared first
+pub record Cleared (begin : List ℕ) (n : ℕ) (ws : List ℕ) (i : ℕ) : Type 0 where
+  pub below : i ≤ n
+  pub long : length ws ≡ length begin
+  pub zeros : (k : ℕ) → k < i → getD ws k 0 ≡ 0
+
+pub cleared-next : (begin : List ℕ) (n : ℕ) (ws : List ℕ) (i : ℕ) → Cleared begin n ws i → i < n → n ≤ length begin → Cleared begin n (set ws i 0) (i + 1)
+cleared-next begin n ws i c l h =
+    record {
+      below = omega arith;
+      long = length-set ws i 0 ∙ c .long;
+      zeros = λ k o. by-order k i
+          (λ q. getD-set-other ws i k 0 0 (λ e. omega arith) ∙ c .zeros k q)
+          (λ e. rw e (getD-set-same ws i 0 0 (omega (arith, c .long))))
+          (λ q. absurd (omega arith));
+    }
+
+-- the slots end before the first chunk's inputs
+pub front-fits : (s : List ℕ) (q : ℕ) (h : Header) → Good s q → h ≡ headerOf s 0 → 64 + 16 * (h .chunks + h .slots) ≤ q
+unfolding firstTables firstWork
+front-fits s q h g e = rw e (omega (arith, room-first s q g .areas, room-first s q g .words))

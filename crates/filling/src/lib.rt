@@ -1,4 +1,4 @@
-// The index of a description of good form, filled in one walk over its fields, in words that are 0.
+// The index of a description of good form, filled in one walk over its fields.
 use description::next_at;
 use description::params_of;
 use description::tag_at;
@@ -14,10 +14,11 @@ use le::u16_at;
 use masks::Mask;
 ghost use mathlib.Core.Path.{_≡_};
 ghost use mathlib.Core.Bool.{cond};
-ghost use Prim.Native.Nat.{ℕ, _+_, _<_, _≤_, _^_};
+ghost use Prim.Native.Nat.{ℕ, _+_, _*_, _<_, _≤_, _^_};
 ghost use lib.Dec.{eqb};
 ghost use lib.ListN.{length, getD};
 ghost use Rattle.words.specs.Layout.{putN};
+ghost use Rattle.description.specs.Fields.{headerOf};
 ghost use Rattle.definition.specs.Module.{signedParams, initOf};
 ghost use Rattle.goodform.specs.Good.{Good};
 ghost use Rattle.layout.specs.Indexed.{bit, Indexed, Fresh, tablesOf};
@@ -262,10 +263,11 @@ fn tables_after(tag: u8, s: &[u8], p: usize, t: Tables) -> Tables
     }
 }
 
-pub fn fill(s: &[u8], ws: &mut [u32], queue: usize) -> Tables
+// The walk, where the words of the slots are 0.
+fn walk(s: &[u8], ws: &mut [u32], queue: usize) -> Tables
     requires { ⌜ Good (now s) queue ⌝ }
     requires { ⌜ queue ≤ length (now ws) ⌝ }
-    requires { ⌜ ((k : ℕ) → k < queue → getD (now ws) k 0 ≡ 0) ⌝ }
+    requires { ⌜ ((k : ℕ) → k < 64 + 16 * (headerOf (now s) 0 .chunks + headerOf (now s) 0 .slots) → getD (now ws) k 0 ≡ 0) ⌝ }
     ensures { λ r. ⌜
         (r ≡ tablesOf (now (s .entry))) × Indexed (now (s .entry)) (now (ws .exit)) × Fresh (now (s .entry)) (now (ws .exit))
         × (length (now (ws .exit)) ≡ length (now (ws .entry)))
@@ -282,4 +284,30 @@ pub fn fill(s: &[u8], ws: &mut [u32], queue: usize) -> Tables
         at = next_at(s, at);
     }
     t
+}
+
+// The first n words are 0.
+fn clear(ws: &mut [u32], n: usize)
+    requires { ⌜ n ≤ length (now ws) ⌝ }
+    ensures { λ r. ⌜ ((k : ℕ) → k < n → getD (now (ws .exit)) k 0 ≡ 0) ⌝ }
+{
+    let mut i = 0;
+    while i < n {
+        ws[i] = 0;
+        i += 1;
+    }
+}
+
+// The index of a description of good form, in words that hold anything.
+pub fn fill(s: &[u8], ws: &mut [u32], queue: usize) -> Tables
+    requires { ⌜ Good (now s) queue ⌝ }
+    requires { ⌜ queue ≤ length (now ws) ⌝ }
+    ensures { λ r. ⌜
+        (r ≡ tablesOf (now (s .entry))) × Indexed (now (s .entry)) (now (ws .exit)) × Fresh (now (s .entry)) (now (ws .exit))
+        × (length (now (ws .exit)) ≡ length (now (ws .entry)))
+        ⌝ }
+{
+    let h = header_at(s, 0);
+    clear(ws, 64 + 16 * ((h.chunks as usize) + (h.slots as usize)));
+    walk(s, ws, queue)
 }

@@ -174,15 +174,11 @@ arrived-stored fresh to c w v j l q e f =
 pub arrived-copied : (from to : ℕ) (w v : List ℕ) → Places w from to 1 → v ≡ copyN w from to 15 → Arrived true to 1 (cellAt w from ∷ []) w v true
 arrived-copied from to w v s e =
     arrived-one true to (cellAt w from) w v true
-    (ap (λ (x : List ℕ). cellAt x to) e ∙ cellAt-copy w from to (omega (arith, s .target)) (near (s .apart)))
+    (ap (λ (x : List ℕ). cellAt x to) e ∙ cellAt-copy w from to (omega (arith, s .target)))
     refl
     (rw e (outside-copy w from to 15))
-  where
-    near : (to ≤ from) ⊎ (from + 16 * 1 ≤ to) → (to ≤ from) ⊎ (from + 15 ≤ to)
-    near (inl h) = inl h
-    near (inr h) = inr (omega arith)
 
-pub arrived-there : (from to : ℕ) (w : List ℕ) → sameN w from to 15 ≡ true → Arrived false to 1 (cellAt w from ∷ []) w w false
+pub arrived-there : (from to : ℕ) (w : List ℕ) → sameN w from to 16 ≡ true → Arrived false to 1 (cellAt w from ∷ []) w w false
 arrived-there from to w e =
     arrived-one false to (cellAt w from) w w false
     (sym takes)

@@ -82,6 +82,15 @@ fn untouched(ws: &[u32], from: usize, forget: u16, narrow: u16) -> bool
     ((forget == NONE) & (narrow == NONE)) | is_plain(ws, from)
 }
 
+// The cell that is kept is joined.
+fn join_kept(ws: &mut [u32], from: usize, to: usize, fresh: bool, forget: u16, narrow: u16) -> bool
+    requires { ⌜ Places (now ws) from to 1 ⌝ }
+    ensures { λ r. ⌜ Arrived fresh to 1 (keptCell forget narrow (cellAt (now (ws .entry)) from) ∷ []) (now (ws .entry)) (now (ws .exit)) r ⌝ }
+{
+    let c = kept(load(ws, from), forget, narrow);
+    join_one(ws, to, fresh, c)
+}
+
 fn keep_same(ws: &mut [u32], from: usize, to: usize, fresh: bool) -> bool
     requires { ⌜ Places (now ws) from to 1 ⌝ }
     ensures { λ r. ⌜ Arrived fresh to 1 (cellAt (now (ws .entry)) from ∷ []) (now (ws .entry)) (now (ws .exit)) r ⌝ }
@@ -93,7 +102,7 @@ fn keep_same(ws: &mut [u32], from: usize, to: usize, fresh: bool) -> bool
     if same16(ws, from, to) {
         return false;
     }
-    join_one(ws, to, false, load(ws, from))
+    join_kept(ws, from, to, false, NONE, NONE)
 }
 
 // One kept place. Where nothing in it is touched, its words are compared or copied.
@@ -104,8 +113,7 @@ fn keep_one(ws: &mut [u32], from: usize, to: usize, fresh: bool, forget: u16, na
     if untouched(ws, from, forget, narrow) {
         return keep_same(ws, from, to, fresh);
     }
-    let c = kept(load(ws, from), forget, narrow);
-    join_one(ws, to, fresh, c)
+    join_kept(ws, from, to, fresh, forget, narrow)
 }
 
 // The places from on and to on, n of them.

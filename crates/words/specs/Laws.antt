@@ -1,7 +1,7 @@
 -- Laws of cells in words: what is stored is read back, other words stay, equal words are equal cells, and equal cells that words hold are equal words.
 use Prim.Native.Nat.{ℕ, zero, suc, _+_, _*_, _/_, _%_, _≤_, _<_}
 use mathlib.Core.Path.{_≡_, refl, sym, ap, ap₂, _∙_}
-use mathlib.Core.Bool.{Bool, true, false, cond, not, _&&_}
+use mathlib.Core.Bool.{Bool, true, false, cond, not, _&&_, _||_, true≢false}
 use mathlib.Core.List.{List, [], _∷_}
 use mathlib.Core.Logic.{_⊎_, inl, inr}
 use native.Mathlib.Omega.{arith}
@@ -9,7 +9,7 @@ use lib.Dec.{eqb, ltb}
 use lib.ListN.{length, getD, set, length-set}
 use lib.Seq.{getD-set-same, getD-set-other}
 use borrow.Author.Count.{below-more}
-use borrow.Author.Tests.{eqb-true, eq-eqb, ltb-true, lt-ltb}
+use borrow.Author.Tests.{eqb-true, eq-eqb, ltb-true, ltb-false, lt-ltb}
 use Rattle.masks.specs.Both.{both}
 use Rattle.masks.specs.declared.Mask.{Mask}
 use Rattle.masks.specs.Mask.{of}
@@ -28,7 +28,7 @@ use Rattle.flows.specs.declared.Predicate.the-variants.{Nothing as Untested, Te
 use Rattle.flows.specs.declared.Flow.{Flow}
 use Rattle.flows.specs.Flow.{absent, noFlow}
 use Rattle.cells.specs.declared.Cell.{Cell}
-use Rattle.words.specs.Layout.{widthOf, extentOf, ownedOf, originOf, predicateOf, twoOf, threeOf, threeOfBody, ownedBits, originWords, predicateWords, encode, decode, off, off-is, cellAt, putN, putCell, copyN, sameN, plainAt, decode-eq, Fit}
+use Rattle.words.specs.Layout.{widthOf, extentOf, ownedOf, originOf, predicateOf, twoOf, threeOf, threeOfBody, ownedBits, originWords, predicateWords, encode, decode, off, off-is, cellAt, putN, putCell, copyN, sameN, flowAt, plainAt, decode-eq, Fit}
 
 origin-fit : (tag n : ℕ) → originWords (originOf tag n) .1 < 65536
 origin-fit tag n = go (eqb tag 0)
@@ -222,8 +222,8 @@ sames-whole w a b zero h = refl
 sames-whole w a b (suc n) h =
     ap₂ _&&_ (sames-whole w a b n (λ k l. h k (omega arith))) (eq-eqb (getD w (a + n) 0) (getD w (b + n) 0) (h n (omega arith)))
 
-pub same-cells : (w : List ℕ) (a b : ℕ) → sameN w a b 15 ≡ true → cellAt w a ≡ cellAt w b
-same-cells w a b e = cellAt-same w w a b (sames-true w a b 15 e)
+pub same-cells : (w : List ℕ) (a b : ℕ) → sameN w a b 16 ≡ true → cellAt w a ≡ cellAt w b
+same-cells w a b e = cellAt-same w w a b (λ k l. sames-true w a b 16 e k (omega arith))
 
 -- of words that hold cells it says whether the cells are equal
 pub same-holds : (w : List ℕ) (a b : ℕ) (c d : Cell) → Holds w a c → Holds w b d → c ≡ d → sameN w a b 15 ≡ true
@@ -234,42 +234,33 @@ same-holds w a b c d p q e =
 pub length-copyN : (w : List ℕ) (a b n : ℕ) → length (copyN w a b n) ≡ length w
 unfolding copyN
 length-copyN w a b zero = refl
-length-copyN w a b (suc k) = length-set (copyN w a b k) (b + k) (getD (copyN w a b k) (a + k) 0) ∙ length-copyN w a b k
+length-copyN w a b (suc k) = length-set (copyN w a b k) (b + k) (getD w (a + k) 0) ∙ length-copyN w a b k
 
 pub copyN-out : (w : List ℕ) (a b n j : ℕ) → (j < b) ⊎ (b + n ≤ j) → getD (copyN w a b n) j 0 ≡ getD w j 0
 unfolding copyN
 copyN-out w a b zero j h = refl
-copyN-out w a b (suc k) j (inl h) = getD-set-other (copyN w a b k) (b + k) j (getD (copyN w a b k) (a + k) 0) 0 (λ e. omega arith) ∙ copyN-out w a b k j (inl h)
-copyN-out w a b (suc k) j (inr h) = getD-set-other (copyN w a b k) (b + k) j (getD (copyN w a b k) (a + k) 0) 0 (λ e. omega arith) ∙ copyN-out w a b k j (inr (omega arith))
+copyN-out w a b (suc k) j (inl h) = getD-set-other (copyN w a b k) (b + k) j (getD w (a + k) 0) 0 (λ e. omega arith) ∙ copyN-out w a b k j (inl h)
+copyN-out w a b (suc k) j (inr h) = getD-set-other (copyN w a b k) (b + k) j (getD w (a + k) 0) 0 (λ e. omega arith) ∙ copyN-out w a b k j (inr (omega arith))
 
--- the source lies behind the place, or before it with room
-pub copyN-in : (w : List ℕ) (a b n : ℕ) → b + n ≤ length w → (b ≤ a) ⊎ (a + n ≤ b) → (i : ℕ) → i < n → getD (copyN w a b n) (b + i) 0 ≡ getD w (a + i) 0
+pub copyN-in : (w : List ℕ) (a b n : ℕ) → b + n ≤ length w → (i : ℕ) → i < n → getD (copyN w a b n) (b + i) 0 ≡ getD w (a + i) 0
 unfolding copyN
-copyN-in w a b zero h s i l = absurd (omega arith)
-copyN-in w a b (suc k) h s i l =
-    below-more (λ (i : ℕ). getD (set (copyN w a b k) (b + k) (getD (copyN w a b k) (a + k) 0)) (b + i) 0 ≡ getD w (a + i) 0) k
-    (λ i m. getD-set-other (copyN w a b k) (b + k) (b + i) (getD (copyN w a b k) (a + k) 0) 0 (λ e. omega arith) ∙ copyN-in w a b k (omega arith) (less s) i m)
-    (getD-set-same (copyN w a b k) (b + k) (getD (copyN w a b k) (a + k) 0) 0 (omega (arith, length-copyN w a b k)) ∙ copyN-out w a b k (a + k) (far s))
+copyN-in w a b zero h i l = absurd (omega arith)
+copyN-in w a b (suc k) h i l =
+    below-more (λ (i : ℕ). getD (set (copyN w a b k) (b + k) (getD w (a + k) 0)) (b + i) 0 ≡ getD w (a + i) 0) k
+    (λ i m. getD-set-other (copyN w a b k) (b + k) (b + i) (getD w (a + k) 0) 0 (λ e. omega arith) ∙ copyN-in w a b k (omega arith) i m)
+    (getD-set-same (copyN w a b k) (b + k) (getD w (a + k) 0) 0 (omega (arith, length-copyN w a b k)))
     i
     (omega arith)
-  where
-    less : (b ≤ a) ⊎ (a + suc k ≤ b) → (b ≤ a) ⊎ (a + k ≤ b)
-    less (inl h) = inl h
-    less (inr h) = inr (omega arith)
 
-    far : (b ≤ a) ⊎ (a + suc k ≤ b) → (a + k < b) ⊎ (b + k ≤ a + k)
-    far (inl h) = inr (omega arith)
-    far (inr h) = inl (omega arith)
-
-pub cellAt-copy : (w : List ℕ) (a b : ℕ) → b + 15 ≤ length w → (b ≤ a) ⊎ (a + 15 ≤ b) → cellAt (copyN w a b 15) b ≡ cellAt w a
-cellAt-copy w a b h s = cellAt-same (copyN w a b 15) w b a (copyN-in w a b 15 h s)
+pub cellAt-copy : (w : List ℕ) (a b : ℕ) → b + 15 ≤ length w → cellAt (copyN w a b 15) b ≡ cellAt w a
+cellAt-copy w a b h = cellAt-same (copyN w a b 15) w b a (copyN-in w a b 15 h)
 
 pub cellAt-copy-other : (w : List ℕ) (a b c : ℕ) → (c + 15 ≤ b) ⊎ (b + 15 ≤ c) → cellAt (copyN w a b 15) c ≡ cellAt w c
 cellAt-copy-other w a b c (inl h) = cellAt-same (copyN w a b 15) w c c (λ k l. copyN-out w a b 15 (c + k) (inl (omega arith)))
 cellAt-copy-other w a b c (inr h) = cellAt-same (copyN w a b 15) w c c (λ k l. copyN-out w a b 15 (c + k) (inr (omega arith)))
 
-pub holds-copy : (w : List ℕ) (a b : ℕ) (c : Cell) → b + 15 ≤ length w → (b ≤ a) ⊎ (a + 15 ≤ b) → Holds w a c → Holds (copyN w a b 15) b c
-holds-copy w a b c h s r = record { word = λ k l. copyN-in w a b 15 h s k l ∙ r .word k l }
+pub holds-copy : (w : List ℕ) (a b : ℕ) (c : Cell) → b + 15 ≤ length w → Holds w a c → Holds (copyN w a b 15) b c
+holds-copy w a b c h r = record { word = λ k l. copyN-in w a b 15 h k l ∙ r .word k l }
 
 -- ---- words of nought
 abbrev pub zeroCell : Cell
@@ -304,3 +295,44 @@ plain-holds w at c f h o p =
     let qo : originWords (c .flow .origin) .0 ≡ 0 = ap (λ (x : Origin). originWords x .0) o in
     let qp : predicateWords (c .flow .predicate) .0 ≡ 0 = ap (λ (x : Predicate). predicateWords x .0) p in
     lt-ltb (getD w at 0) 1048576 (omega (arith, f .mask, width-small (c .width), owned-small (c .flow .owned)))
+
+-- ---- cells without flow
+neither : (s t : Bool) → s || t ≡ false → (s ≡ false) × (t ≡ false)
+neither false t e = (refl, e)
+neither true t e = absurd (true≢false e)
+
+zero-word : (n : ℕ) → not (eqb n 0) ≡ false → n ≡ 0
+zero-word n e = eqb-true n 0 (go (eqb n 0) e)
+  where
+    go : (t : Bool) → not t ≡ false → t ≡ true
+    go true e = refl
+    go false e = sym e
+
+-- neither owned nor an origin nor a predicate
+no-flags : (n : ℕ) → ltb 262143 n ≡ false → (n / 65536 / 4 % 4 ≡ 0) × (n / 65536 / 64 % 2 ≡ 0) × (n / 65536 / 16 % 4 ≡ 0)
+no-flags n e = let h = ltb-false 262143 n e in (omega arith, omega arith, omega arith)
+
+pub flow-none : (w : List ℕ) (at : ℕ) → flowAt w at ≡ false → cellAt w at .flow ≡ noFlow
+unfolding cellAt decode noFlow
+flow-none w at e =
+    let word : ℕ → ℕ = λ k. getD w (at + k) 0 in
+    let t1 = neither _ _ e in
+    let t2 = neither _ _ (t1 .1) in
+    let t3 = neither _ _ (t2 .1) in
+    let t4 = neither _ _ (t3 .1) in
+    let f = no-flags (getD w at 0) (t1 .0) in
+    let b0 = zero-word (word 2) (t2 .0) in
+    let b1 = zero-word (word 5) (t3 .0) in
+    let b2 = zero-word (word 8) (t4 .0) in
+    let b3 = zero-word (word 11) (t4 .1) in
+    λ i. record {
+      bodies =
+          extentOf (b0 i) (word 3) (word 4)
+          ∷ extentOf (b1 i) (word 6) (word 7)
+          ∷ extentOf (b2 i) (word 9) (word 10)
+          ∷ extentOf (b3 i) (word 12) (word 13)
+          ∷ [];
+      owned = ownedOf (f .0 i);
+      origin = originOf (f .1 i) (word 14 % 65536);
+      predicate = predicateOf (f .2 i) (word 14 / 65536);
+    }

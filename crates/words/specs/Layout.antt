@@ -1,7 +1,7 @@
 -- A cell as sixteen words: how it is written and read, and the models of the loops that copy and compare words. The last word is not the cell's.
 use Prim.Native.Nat.{ℕ, zero, suc, _+_, _*_, _/_, _%_, _≤_, _<_}
 use native.Mathlib.Omega.{arith}
-use mathlib.Core.Bool.{Bool, true, false, cond, not, _&&_}
+use mathlib.Core.Bool.{Bool, true, false, cond, not, _&&_, _||_}
 use mathlib.Core.List.{List, [], _∷_}
 use mathlib.Core.Path.{_≡_, refl, sym, ap, ap₂, _∙_}
 use borrow.Author.Count.{below-more}
@@ -145,15 +145,24 @@ putN w at vs (suc k) = set (putN w at vs k) (at + k) (getD vs k 0)
 unfoldable pub putCell : List ℕ → ℕ → Cell → List ℕ
 putCell w at c = putN w at (encode c) 15
 
--- k words from a copied to b, first to last
+-- the k words from a, as they are before, copied to b
 unfoldable pub copyN : List ℕ → ℕ → ℕ → ℕ → List ℕ
 copyN w a b zero = w
-copyN w a b (suc k) = set (copyN w a b k) (b + k) (getD (copyN w a b k) (a + k) 0)
+copyN w a b (suc k) = set (copyN w a b k) (b + k) (getD w (a + k) 0)
 
 -- the k words at a are those at b
 unfoldable pub sameN : List ℕ → ℕ → ℕ → ℕ → Bool
 sameN w a b zero = true
 sameN w a b (suc k) = sameN w a b k && eqb (getD w (a + k) 0) (getD w (b + k) 0)
+
+-- a body, owned, an origin or a predicate
+abbrev pub flowAt : List ℕ → ℕ → Bool
+flowAt w at =
+    ltb 262143 (getD w at 0)
+    || (not (eqb (getD w (at + 2) 0) 0)
+    || (not (eqb (getD w (at + 5) 0) 0)
+    || (not (eqb (getD w (at + 8) 0) 0)
+    || not (eqb (getD w (at + 11) 0) 0))))
 
 -- neither origin nor predicate
 abbrev pub plainAt : List ℕ → ℕ → Bool
@@ -206,20 +215,10 @@ decode-eq g h e =
     three : (k : ℕ) → suc (suc k) < 15 → extentOf (g k) (g (suc k)) (g (suc (suc k))) ≡ extentOf (h k) (h (suc k)) (h (suc (suc k)))
     three k l = λ i. extentOf (e k (omega arith) i) (e (suc k) (omega arith) i) (e (suc (suc k)) l i)
 
-pub sames-false : (w : List ℕ) (a b k n : ℕ) → k < n → eqb (getD w (a + k) 0) (getD w (b + k) 0) ≡ false → sameN w a b n ≡ false
-unfolding sameN
-sames-false w a b k zero l e = absurd (omega arith)
-sames-false w a b k (suc n) l e =
-    below-more (λ (j : ℕ). eqb (getD w (a + j) 0) (getD w (b + j) 0) ≡ false → sameN w a b n && eqb (getD w (a + n) 0) (getD w (b + n) 0) ≡ false) n
-    (λ j m q. ap (λ (t : Bool). t && eqb (getD w (a + n) 0) (getD w (b + n) 0)) (sames-false w a b j n m q))
-    (λ q. ap (λ (t : Bool). sameN w a b n && t) q ∙ no (sameN w a b n))
-    k
-    (omega arith)
-    e
-  where
-    no : (t : Bool) → t && false ≡ false
-    no true = refl
-    no false = refl
+pub put-copy : (w vs : List ℕ) (a b n : ℕ) → ((k : ℕ) → k < n → getD vs k 0 ≡ getD w (a + k) 0) → putN w b vs n ≡ copyN w a b n
+unfolding putN copyN
+put-copy w vs a b zero e = refl
+put-copy w vs a b (suc n) e = ap₂ (λ (l : List ℕ) (x : ℕ). set l (b + n) x) (put-copy w vs a b n (λ k l. e k (omega arith))) (e n (omega arith))
 
 pub fits : (c : Cell) (o p : Two) → c .mask .bits < 65536 → length (c .flow .bodies) ≡ 4 → o ≡ originWords (c .flow .origin) → o .1 < 65536 → p ≡ predicateWords (c .flow .predicate) → p .1 < 65536 → Fit c
 fits c o p m f eo lo ep lp = record { mask = m; four = f; origin = rw (← eo) lo; receiver = rw (← ep) lp }

@@ -119,7 +119,7 @@ cellsAt-put w at n k c h l f =
     cellsAt-set (outside-put w (at + 16 * k) c) at n k c h (omega arith) (omega arith)
     (cellAt-put w (at + 16 * k) c (omega arith) f)
 
-pub cellsAt-copy : (w : List ℕ) (from at n k : ℕ) → k < n → at + 16 * n ≤ length w → (at + 16 * k ≤ from) ⊎ (from + 15 ≤ at + 16 * k) → cellsAt (copyN w from (at + 16 * k) 15) at n ≡ set (cellsAt w at n) k (cellAt w from)
-cellsAt-copy w from at n k h l s =
+pub cellsAt-copy : (w : List ℕ) (from at n k : ℕ) → k < n → at + 16 * n ≤ length w → cellsAt (copyN w from (at + 16 * k) 15) at n ≡ set (cellsAt w at n) k (cellAt w from)
+cellsAt-copy w from at n k h l =
     cellsAt-set (outside-copy w from (at + 16 * k) 15) at n k (cellAt w from) h (omega arith) (omega arith)
-    (cellAt-copy w from (at + 16 * k) (omega arith) s)
+    (cellAt-copy w from (at + 16 * k) (omega arith))

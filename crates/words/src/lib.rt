@@ -2,6 +2,7 @@
 mod cell;
 
 pub use cell::copy16;
+pub use cell::has_flow;
 pub use cell::is_plain;
 pub use cell::load;
 pub use cell::mask_at;

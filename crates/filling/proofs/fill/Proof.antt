@@ -1,76 +1,67 @@
-use Rattle.filling.proofs.Walking.{Going, going-first, first-fits, going-code, going-slots, going-tables, going-next, going-done}
 use native.Mathlib.Omega.{arith}
-use lib.ListN.{length}
-use Prim.Native.Nat.{_-_}
+use mathlib.Core.Path.{sym}
+use Rattle.filling.proofs.Walking.{front-fits}
+use borrow.Author.Needs.{needs}
 use Rattle.filling.proofs.fill.Statement.{statement}
 use Rattle.filling.proofs.fill.Tie as tie
+use Rattle.filling.proofs.fill.Reads as reads
+use Rattle.filling.proofs.fill.Lts as lts
+use Rattle.filling.proofs.clear.Reads as clear-reads
+use Rattle.filling.proofs.walk.Reads as walk-reads
+use Rattle.heads.proofs.header_at.Reads as header-at-reads
 
-abbrev Inv-loop : tie.InvT-loop
-Inv-loop s ws₀ queue t₀ w₀ at₀ ws t w at = Going s ws₀ queue ws t w at
+-- src/lib.rt:310:9
+header-at-requires : tie.Need-header-at-requires
+header-at-requires c κs = search needs
 
-abbrev μ-loop : tie.MeasureT-loop
-μ-loop s ws₀ queue t₀ w₀ at₀ ws t w at = length s - at
+-- src/lib.rt:313:21
+cast-clear : tie.Need-cast-clear
+cast-clear c = search needs
 
-first-tables-requires : tie.Need-first-tables-requires Inv-loop μ-loop
-first-tables-requires c κs = c .before .before .pre .0
+-- src/lib.rt:313:43
+cast-clear-2 : tie.Need-cast-clear-2
+cast-clear-2 c = search needs
 
-first-work-requires : tie.Need-first-work-requires Inv-loop μ-loop
-first-work-requires c κs = first-fits _ _ _ (c .before .before .before .pre .0) (c .first-tables .ensures)
+-- src/lib.rt:313:20
+add-clear : tie.Need-add-clear
+add-clear c = search needs
 
-next-at-requires : tie.Need-next-at-requires Inv-loop μ-loop
-next-at-requires c κs = omega arith
+-- src/lib.rt:313:14
+mul-clear : tie.Need-mul-clear
+mul-clear c = search needs
 
-loop-holds : tie.Need-loop-holds Inv-loop μ-loop
-loop-holds c = going-first _ _ _ _ _ _ (c .before .before .before .before .before .pre .0) (c .before .before .before .before .before .pre .1 .0) (c .before .before .first-tables .ensures) (c .before .first-work .ensures) (c .next-at .ensures .0)
+-- src/lib.rt:313:9
+add-clear-2 : tie.Need-add-clear-2
+add-clear-2 c = search needs
 
-tag-at-requires : tie.Need-tag-at-requires Inv-loop μ-loop
-tag-at-requires c κs = omega arith
+-- src/lib.rt:311:5
+clear-requires : tie.Need-clear-requires
+clear-requires c κs = omega (arith, front-fits _ _ _ (c .before .before .before .before .before .before .pre .0) (c .before .before .before .header-at .ensures), c .before .before .before .before .before .before .pre .1)
 
-fill-code-requires : tie.Need-fill-code-requires Inv-loop μ-loop
-fill-code-requires c κs = going-code _ _ _ _ _ _ _ (c .before .before .before .loop .inv) _ (c .before .before .loop-test .taken) (c .before .tag-at .ensures)
+-- src/lib.rt:315:5
+walk-requires : tie.Need-walk-requires
+walk-requires c κs =
+    (c .before .before .before .before .before .before .before .before .before .before .pre .0, (omega (arith, c .before .before .before .before .before .before .before .before .before .before .pre .1, c .before .before .before .clear .kept), λ k l. c .before .before .before .clear .ensures k (rw (c .before .before .before .before .before .before .before .header-at .ensures) l)))
 
-fill-slot-requires : tie.Need-fill-slot-requires Inv-loop μ-loop
-fill-slot-requires c κs = going-slots _ _ _ _ _ _ _ (c .before .before .before .before .before .before .before .loop .inv) (c .before .before .before .fill-code .last .1 .1 .0) (c .before .before .before .fill-code .kept .1 .1 .0)
+-- src/lib.rt:302:1
+same-length : tie.Need-same-length
+same-length c = search needs
 
-tables-after-requires : tie.Need-tables-after-requires Inv-loop μ-loop
-tables-after-requires c κs = going-tables _ _ _ _ _ _ _ (c .before .before .before .before .before .before .before .before .before .before .loop .inv)
-
-next-at-requires-2 : tie.Need-next-at-requires-2 Inv-loop μ-loop
-next-at-requires-2 c κs = omega (arith, c .before .before .before .before .before .before .before .before .before .before .before .loop .inv .place)
-
-loop-less : tie.Need-loop-less Inv-loop μ-loop
-loop-less c = omega (arith, c .next-at2 .ensures, c .before .before .before .before .before .before .before .before .before .before .before .loop-test .taken)
-
-loop-again : tie.Need-loop-again Inv-loop μ-loop
-loop-again c =
-    going-next _ _ _ _ _ _ _ _ _ _ _ _ _ (c .before .before .before .before .before .before .before .before .before .before .before .before .loop .inv) (c .before .before .before .before .before .before .before .before .before .before .before .loop-test .taken) (c .before .before .before .before .before .before .before .before .before .before .tag-at .ensures) (c .before .before .before .before .before .before .before .before .fill-code .ensures .0) (c .before .before .before .before .before .before .before .before .fill-code .ensures .1)
-    (c .before .before .before .before .fill-slot .ensures)
-    (c .before .tables-after .ensures)
-    (c .next-at2 .ensures .0)
-    (c .next-at2 .ensures .2)
-
-same-length : tie.Need-same-length Inv-loop μ-loop
-same-length c = c .before .loop .inv .long
-
-returns : tie.Need-returns Inv-loop μ-loop
-returns c = going-done _ _ _ _ _ _ _ (c .before .loop .inv) (c .loop-test .left) (c .before .before .before .before .before .before .before .pre .0) (c .before .before .before .before .before .before .before .pre .1 .0) (c .before .before .before .before .before .before .before .pre .1 .1)
+-- src/lib.rt:302:1
+returns : tie.Need-returns
+returns c = search needs
 
 pub fill-spec : {M : Type 1} → statement M
 fill-spec =
     tie.close
     (tie.spec
-    Inv-loop
-    μ-loop
-    first-tables-requires
-    first-work-requires
-    next-at-requires
-    loop-holds
-    tag-at-requires
-    fill-code-requires
-    fill-slot-requires
-    tables-after-requires
-    next-at-requires-2
-    loop-less
-    loop-again
+    header-at-requires
+    cast-clear
+    cast-clear-2
+    add-clear
+    mul-clear
+    add-clear-2
+    clear-requires
+    walk-requires
     same-length
     returns)

@@ -21,22 +21,14 @@ returns c =
     rw (untouched-kept (now (a .ws)) (a .from) (a .forget) (a .narrow) (sym (c .before .before .before .before .before .untouched .ensures) ∙ c .before .before .before .before .if1 .taken))
     (c .before .before .keep-same .ensures)
 
-load-requires : tie.Need-load-requires
-load-requires c κs = search needs
-
-kept-requires : tie.Need-kept-requires
-kept-requires c κs = search needs
-
-join-one-requires : tie.Need-join-one-requires
-join-one-requires c κs = search needs
+join-kept-requires : tie.Need-join-kept-requires
+join-kept-requires c κs = search needs
 
 same-length-2 : tie.Need-same-length-2
 same-length-2 c = search needs
 
 returns-2 : tie.Need-returns-2
-returns-2 c =
-    rw (← c .before .before .before .before .before .load .ensures, ← c .before .before .before .before .kept .ensures)
-    (c .before .before .join-one .ensures)
+returns-2 c = search needs
 
 pub keep-one-spec : {M : Type 1} → statement M
 keep-one-spec =
@@ -46,8 +38,6 @@ keep-one-spec =
     keep-same-requires
     same-length
     returns
-    load-requires
-    kept-requires
-    join-one-requires
+    join-kept-requires
     same-length-2
     returns-2)

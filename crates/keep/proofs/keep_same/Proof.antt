@@ -1,5 +1,6 @@
 -- `keep::keep_same` meets its contract: the words are copied, are there already, or are joined.
 use Rattle.keep.specs.Laws.{arrived-copied, arrived-there}
+use Rattle.keep.specs.Arrive.{keptCell}
 use denote.Ref.{now}
 use mathlib.Core.Path.{sym, _∙_}
 use borrow.Author.Needs.{needs}
@@ -30,19 +31,15 @@ returns-2 c =
     rw (c .before .before .before .if1 .left)
     (arrived-there (a .from) (a .to) (now (a .ws)) (sym (c .before .same16 .ensures) ∙ c .if2 .taken))
 
-load-requires : tie.Need-load-requires
-load-requires c κs = search needs
-
-join-one-requires : tie.Need-join-one-requires
-join-one-requires c κs = search needs
+join-kept-requires : tie.Need-join-kept-requires
+join-kept-requires c κs = search needs
 
 same-length-3 : tie.Need-same-length-3
 same-length-3 c = search needs
 
 returns-3 : tie.Need-returns-3
-returns-3 c =
-    rw (c .before .before .before .before .before .before .before .before .before .if1 .left, ← c .before .before .before .load .ensures)
-    (c .before .before .join-one .ensures)
+unfolding keptCell
+returns-3 c = rw (c .before .before .before .before .before .before .before .if1 .left) (c .before .before .join-kept .ensures)
 
 pub keep-same-spec : {M : Type 1} → statement M
 keep-same-spec =
@@ -54,7 +51,6 @@ keep-same-spec =
     same16-requires
     same-length-2
     returns-2
-    load-requires
-    join-one-requires
+    join-kept-requires
     same-length-3
     returns-3)

@@ -12,8 +12,8 @@ field-of-requires c κs =
     let p = c .before .before .pre in
     (p .0, (omega arith, (p .1 .1 .0, omega arith)))
 
-instr-at-requires : tie.Need-instr-at-requires
-instr-at-requires c κs =
+read-instr-requires : tie.Need-read-instr-requires
+read-instr-requires c κs =
     let a = c .before .before .before .args in
     let p = c .before .before .before .pre in
     let r = row-known (now (a .s)) (now (a .ws)) (a .c) (a .ch) (a .i) (p .0) (p .1 .0) (p .1 .1 .0) (p .1 .1 .1) in
@@ -24,9 +24,9 @@ returns c =
     let a = c .before .before .before .before .args in
     let p = c .before .before .before .before .pre in
     let r = row-known (now (a .s)) (now (a .ws)) (a .c) (a .ch) (a .i) (p .0) (p .1 .0) (p .1 .1 .0) (p .1 .1 .1) in
-    c .instr-at .ensures
+    c .read-instr .ensures
     ∙ ap (instrOf (now (a .s))) (c .before .field-of .ensures)
     ∙ sym (instr-is (now (a .s)) (a .c) (p .1 .0) (a .i) (r .there))
 
 pub instr-of-spec : {M : Type 1} → statement M
-instr-of-spec = tie.close (tie.spec field-of-requires instr-at-requires returns)
+instr-of-spec = tie.close (tie.spec field-of-requires read-instr-requires returns)

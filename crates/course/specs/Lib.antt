@@ -1,0 +1,5 @@
+pub mod Course
+pub mod Rows
+pub mod Stays
+pub mod Queues
+pub mod Admitted

@@ -1,0 +1,6 @@
+pub mod Entering
+pub mod Reach
+pub mod Rows
+pub mod Began
+pub mod Rounds
+pub mod Fault

@@ -1,0 +1,7 @@
+pub mod Lists
+pub mod Frames
+pub mod Taken
+pub mod Cells
+pub mod Slots
+pub mod Merge
+pub mod Gifts

@@ -1,0 +1,5 @@
+pub mod Never
+pub mod Ruled
+pub mod Parts
+pub mod First
+pub mod Set

@@ -1,0 +1,56 @@
+// Where no entry is due: on to the next chunk, the next round, validation or the end; it takes no step.
+use course::Run;
+use entering::Settled;
+use entering::begin;
+use entering::inspected;
+use entering::next_reachable;
+use entering::open_round;
+use gives::merge_writes;
+use layout::Tables;
+ghost use mathlib.Core.Path.{_≡_};
+ghost use Rattle.layout.specs.Indexed.{tablesOf};
+ghost use Rattle.course.specs.Course.{Between, Ended};
+ghost use Rattle.settling.specs.Settling.{Onward};
+ghost use Rattle.settling.specs.Ends.{EndsAs, GoesOn};
+
+// The end of a round: another, where the facts moved, else validation. The end of validation: done.
+fn end_round(s: &[u8], ws: &mut [u32], t: Tables, r: Run) -> Settled
+    requires { ⌜ Ended (now s) (now ws) ⌝ }
+    requires { ⌜ t ≡ tablesOf (now s) ⌝ }
+    ensures { λ x. ⌜ EndsAs (now (s .entry)) (now (ws .entry)) (now (ws .exit)) r x ⌝ }
+{
+    if r.validating {
+        return Settled::Done;
+    }
+    let moved = merge_writes(s, ws, t, r.changed);
+    open_round(s, ws, t, !moved, r.steps)
+}
+
+fn onward(s: &[u8], ws: &mut [u32], t: Tables, r: Run) -> Settled
+    requires { ⌜ Between (now s) (now ws) r ⌝ }
+    requires { ⌜ t ≡ tablesOf (now s) ⌝ }
+    ensures { λ x. ⌜ GoesOn (now (s .entry)) (now (ws .entry)) (now (ws .exit)) r x ⌝ }
+{
+    let next = next_reachable(s, ws, t, r.chunk + 1);
+    if next < t.chunks {
+        return Settled::Due(begin(s, ws, t, next, r.validating, r.changed, r.steps));
+    }
+    end_round(s, ws, t, r)
+}
+
+// The queue is empty.
+pub fn settle(s: &[u8], ws: &mut [u32], t: Tables, r: Run) -> Settled
+    requires { ⌜ Between (now s) (now ws) r ⌝ }
+    requires { ⌜ r .queue .count ≡ 0 ⌝ }
+    requires { ⌜ t ≡ tablesOf (now s) ⌝ }
+    ensures { λ x. ⌜ Onward (now (s .entry)) (now (ws .entry)) (now (ws .exit)) r x ⌝ }
+{
+    if !r.validating {
+        return onward(s, ws, t, r);
+    }
+    let refusal = inspected(s, ws, r.chunk, r.steps);
+    if refusal.number != 0 {
+        return Settled::Stop(refusal);
+    }
+    onward(s, ws, t, r)
+}

@@ -1,0 +1,4 @@
+pub mod Starting
+pub mod Inputs
+pub mod Replies
+pub mod Settled
