@@ -2,7 +2,8 @@
 //! library.
 
 use definition::Form;
-use engine::{Ran, Started};
+use running::Ran;
+use starting::Started;
 use oracle::timing::now;
 use std::time::Duration;
 
@@ -12,9 +13,9 @@ pub fn run(description: &[u8], workspace: &mut [u32], limit: u32) -> (Duration, 
     let Form::Fine(words) = form::check_form(description) else { return (Duration::ZERO, None) };
     let tables = filling::fill(description, workspace, words as usize);
     let start = now();
-    let steps = match engine::start(description, workspace, tables) {
+    let steps = match starting::start(description, workspace, tables) {
         Started::Refused(_) => None,
-        Started::Ready(_) => match engine::run(description, workspace, tables, limit) {
+        Started::Ready(_) => match running::run(description, workspace, tables, limit) {
             Ran::Stop(_) => None,
             Ran::Done(steps) => Some(steps),
         },
