@@ -10,6 +10,7 @@ use lib.ListN.{length, getD}
 use borrow.Author.Tests.{ltb-false, eqb-true, eqb-false}
 use Rattle.masks.specs.Both.{both}
 use Rattle.laws.specs.Join.{never}
+use Rattle.calls.specs.Calls.{call-is}
 use Rattle.cells.specs.declared.Cell.{Cell}
 use Rattle.cells.specs.Cell.{bareCell}
 use Rattle.description.specs.declared.Instr.{Instr}
@@ -43,38 +44,6 @@ use Rattle.gives.specs.Taken.{Took}
 use Rattle.gives.specs.Cells.{input-end, signed}
 
 -- ---- only `Call` gives arguments
-isCall : Acts → Bool
-isCall Calls = true
-isCall Still = false
-isCall SetsLocal = false
-isCall Yields = false
-isCall Returns = false
-isCall Resets = false
-isCall Stores = false
-
-onlyCall : ℕ → List Rule → Bool
-onlyCall n [] = true
-onlyCall n (r ∷ rs) = (not (isCall (r .acts)) || eqb n 30) && onlyCall (suc n) rs
-
-only-call : onlyCall 0 rules ≡ true
-unfolding rules onlyCall isCall
-only-call = refl
-
-call-at : (k : ℕ) (rs : List Rule) → onlyCall k rs ≡ true → (n : ℕ) → getD rs n noRule .acts ≡ Calls → k + n ≡ 30
-unfolding onlyCall isCall
-call-at k [] h n e = never (ap isCall e)
-call-at k (r ∷ rs) h zero e =
-    let (p, _) = both (not (isCall (r .acts)) || eqb k 30) (onlyCall (suc k) rs) h in
-    let q : eqb k 30 ≡ true = rw e at p in
-    omega (arith, eqb-true k 30 q)
-call-at k (r ∷ rs) h (suc n) e =
-    let l = call-at (suc k) rs (both (not (isCall (r .acts)) || eqb k 30) (onlyCall (suc k) rs) h .1) n e in
-    omega arith
-
-call-is : (op : ℕ) → ruleOf op .acts ≡ Calls → op ≡ 30
-unfolding ruleOf
-call-is op e = let l = call-at 0 rules only-call op e in omega arith
-
 call-callee : (op : ℕ) → op ≡ 30 → fitOf op .meaning ≡ callee
 unfolding fitOf fits
 call-callee op e = rw e

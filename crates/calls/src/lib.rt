@@ -1,0 +1,1 @@
+// A theorem about the table of rules: see specs/.
