@@ -4,9 +4,26 @@ use mathlib.Core.Path.{_≡_}
 use mathlib.Core.Bool.{cond}
 use mathlib.Core.List.{List, [], _∷_}
 use lib.Dec.{eqb}
+use lib.ListN.{take, getD}
+use Rattle.answers.specs.declared.Answer.the-variants.{Accepted}
+use Rattle.answers.specs.Answers.{numbers}
 use Rattle.definition.specs.declared.Form.{Form}
 use Rattle.definition.specs.declared.Form.the-variants.{Fine, Refused}
+use Rattle.definition.specs.Module.{moduleOf}
+use Rattle.definition.specs.Call.{call}
+use Rattle.reading.specs.Read.{readReport}
+use Rattle.consistent.specs.Consistent.{Consistent}
 use Rattle.find.specs.declared.Part.{Part}
+
+-- s the description, ws and buf workspace and report buffer as they were; r what is returned, out, buf′ and ws′ what the call left
+pub record CallOf (s ws buf : List ℕ) (limit r : ℕ) (out buf′ ws′ : List ℕ) : Type 0 where
+  -- number, chunk, instruction, steps and length; the number is returned, too
+  pub answer : out ≡ numbers (call s ws buf limit .answer)
+  pub number : r ≡ getD out 0 0
+  pub report : buf′ ≡ call s ws buf limit .report
+  pub workspace : ws′ ≡ call s ws buf limit .workspace
+  -- demand 3, of the bytes that were written
+  pub consistent : (long steps : ℕ) → call s ws buf limit .answer ≡ Accepted long steps → Consistent (moduleOf s) (readReport (take long buf′))
 
 -- 0 for good form, or the refusal's number
 unfoldable pub formNumber : Form → ℕ
