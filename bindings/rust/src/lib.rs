@@ -142,11 +142,9 @@ impl std::error::Error for Refusal {}
 /// What a call comes to.
 pub type Outcome = Result<Accepted, Refusal>;
 
-/// Analyses a description in the words of `workspace`, with `limit` steps at
-/// most. Accepted: the report is in the first bytes of `report`. The workspace
-/// is as it was after the refusals 1 to 5, and zeros after all else; nothing
-/// but a report is written to `report`.
-pub fn check(description: &[u8], workspace: &mut [u32], report: &mut [u8], limit: u32) -> Outcome {
+/// The call's numbers as they are: what it returns, and number, chunk,
+/// instruction, steps and length. Workspace and report are as for `check`.
+pub fn numbers(description: &[u8], workspace: &mut [u32], report: &mut [u8], limit: u32) -> (u32, [u64; 5]) {
     let mut answer = [0; 5];
     // SAFETY: the slices are valid for the whole call, and what is written is borrowed for it alone.
     let number = unsafe {
@@ -161,7 +159,12 @@ pub fn check(description: &[u8], workspace: &mut [u32], report: &mut [u8], limit
             &mut answer,
         )
     };
-    let [_, chunk, instruction, steps, length] = answer;
+    (number, answer)
+}
+
+/// What an answer's numbers say.
+pub fn outcome(answer: [u64; 5]) -> Outcome {
+    let [number, chunk, instruction, steps, length] = answer;
     if number == 0 {
         return Ok(Accepted { length: length as usize, steps: steps as u32 });
     }
@@ -171,6 +174,14 @@ pub fn check(description: &[u8], workspace: &mut [u32], report: &mut [u8], limit
         instruction: instruction as u16,
         steps: steps as u32,
     })
+}
+
+/// Analyses a description in the words of `workspace`, with `limit` steps at
+/// most. Accepted: the report is in the first bytes of `report`. The workspace
+/// is as it was after the refusals 1 to 5, and zeros after all else; nothing
+/// but a report is written to `report`.
+pub fn check(description: &[u8], workspace: &mut [u32], report: &mut [u8], limit: u32) -> Outcome {
+    outcome(numbers(description, workspace, report, limit).1)
 }
 
 /// The least workspace for a description, in words; where it has no good form,
