@@ -1,0 +1,20 @@
+-- What a call of `check` comes to: answer, report buffer and workspace are the definition's for all arguments, and an accepted report meets demand 3.
+use Prim.Native.Nat.{ℕ}
+use mathlib.Core.Path.{_≡_}
+use mathlib.Core.List.{List}
+use lib.ListN.{take}
+use Rattle.answers.specs.declared.Answer.{Answer}
+use Rattle.answers.specs.declared.Answer.the-variants.{Accepted}
+use Rattle.definition.specs.Module.{moduleOf}
+use Rattle.definition.specs.Call.{call}
+use Rattle.reading.specs.Read.{readReport}
+use Rattle.consistent.specs.Consistent.{Consistent}
+
+-- s the description, ws and buf workspace and report buffer as they were; r, buf′ and ws′ the answer and what the call left
+pub record Checked (s ws buf : List ℕ) (limit : ℕ) (r : Answer) (buf′ ws′ : List ℕ) : Type 0 where
+  -- demands 1 and 2
+  pub answer : r ≡ call s ws buf limit .answer
+  pub report : buf′ ≡ call s ws buf limit .report
+  pub workspace : ws′ ≡ call s ws buf limit .workspace
+  -- demand 3, of the bytes that were written
+  pub consistent : (long steps : ℕ) → r ≡ Accepted long steps → Consistent (moduleOf s) (readReport (take long buf′))

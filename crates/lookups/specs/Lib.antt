@@ -1,0 +1,5 @@
+pub mod Named
+pub mod Rising
+pub mod Shown
+pub mod Theorem
+pub mod Cases

@@ -1,0 +1,1 @@
+// What a lookup finds in the report of an accepted call: see specs/.

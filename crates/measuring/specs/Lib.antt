@@ -1,0 +1,10 @@
+pub mod Reporting
+pub mod Span
+pub mod Table
+pub mod Four
+pub mod Adds
+pub mod Told
+pub mod Long
+pub mod Here
+pub mod Guards
+pub mod Measured

@@ -1,0 +1,5 @@
+pub mod Writes
+pub mod Guards
+pub mod Values
+pub mod Tagged
+pub mod Whole
