@@ -5,7 +5,6 @@ use mathlib.Core.Bool.{cond}
 use mathlib.Core.List.{List, [], _∷_}
 use lib.Dec.{eqb}
 use lib.ListN.{take, getD}
-use Rattle.answers.specs.declared.Answer.the-variants.{Accepted}
 use Rattle.answers.specs.Answers.{numbers}
 use Rattle.definition.specs.declared.Form.{Form}
 use Rattle.definition.specs.declared.Form.the-variants.{Fine, Refused}
@@ -22,8 +21,8 @@ pub record CallOf (s ws buf : List ℕ) (limit r : ℕ) (out buf′ ws′ : List
   pub number : r ≡ getD out 0 0
   pub report : buf′ ≡ call s ws buf limit .report
   pub workspace : ws′ ≡ call s ws buf limit .workspace
-  -- demand 3, of the bytes that were written
-  pub consistent : (long steps : ℕ) → call s ws buf limit .answer ≡ Accepted long steps → Consistent (moduleOf s) (readReport (take long buf′))
+  -- demand 3, of the bytes that were written: 0 is returned only where the call is accepted
+  pub consistent : r ≡ 0 → Consistent (moduleOf s) (readReport (take (getD out 4 0) buf′))
 
 -- 0 for good form, or the refusal's number
 unfoldable pub formNumber : Form → ℕ
