@@ -1,7 +1,5 @@
 -- `facts_c::facts_check` meets its contract.
-use mathlib.Core.Path.{_∙_, sym, ap}
-use lib.ListN.{getD}
-use Rattle.answers.specs.Answers.{numbers}
+use Rattle.facts_c.proofs.Cases.{called}
 use borrow.Author.Needs.{needs}
 use Rattle.facts_c.proofs.facts_check.Statement.{statement}
 use Rattle.facts_c.proofs.facts_check.Tie as tie
@@ -23,15 +21,7 @@ same-length-2 c = search needs
 
 returns : tie.Need-returns
 returns c =
-    let k = c .before .before .before .before .before .before .check .ensures in
-    let a = c .before .in-numbers .ensures in
-    record {
-      answer = a ∙ ap numbers (k .answer);
-      number = c .number-of .ensures ∙ ap (λ l. getD l 0 0) (sym a);
-      report = k .report;
-      workspace = k .workspace;
-      consistent = λ long steps e. k .consistent long steps (k .answer ∙ e);
-    }
+    called _ _ _ _ _ _ _ _ _ (c .before .before .before .before .before .before .check .ensures) (c .before .in-numbers .ensures) (c .number-of .ensures)
 
 pub facts-check-spec : {M : Type 1} → statement M
 facts-check-spec =
