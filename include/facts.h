@@ -77,7 +77,7 @@ uint32_t facts_check(const uint8_t *description, size_t description_bytes,
                      uint32_t limit, uint64_t answer[FACTS_ANSWER]);
 
 /* The least workspace for a description, in words. Returns 0 where it has
- * good form; else 1 to 4, and words[0] is 0. It is below 2^32.
+ * good form; else 1 to 4, and words[0] is 0.
  */
 uint32_t facts_words(const uint8_t *description, size_t description_bytes,
                      uint64_t words[1]);

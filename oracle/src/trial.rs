@@ -29,6 +29,20 @@ pub struct Buffers {
     workspace: Vec<u32>,
     report: Vec<u8>,
 }
+
+impl Buffers {
+    fn prepare(&mut self, words: usize, length: usize, start: u32) {
+        if cfg!(valgrind) {
+            *self = Buffers::default();
+            self.workspace.reserve_exact(words);
+            self.report.reserve_exact(length);
+        }
+        self.workspace.resize(words + BEHIND, 0);
+        self.report.resize(length + BEHIND, 0);
+        self.workspace.iter_mut().enumerate().for_each(|(at, word)| *word = word_before(start, at));
+        self.report.iter_mut().enumerate().for_each(|(at, byte)| *byte = byte_before(start, at));
+    }
+}
 const BEHIND: usize = if cfg!(valgrind) { 0 } else { 8 };
 
 /// What a word or byte of a buffer is before the call; a word is never 0.
@@ -50,15 +64,7 @@ pub fn differs(bytes: &[u8], bounds: &Bounds, expected: &Outcome, start: u32, b:
     let (words, length) = (bounds.words, bounds.report_len);
     let own: Box<[u8]> = bytes.into();
     let bytes = &own[..];
-    if cfg!(valgrind) {
-        *b = Buffers::default();
-        b.workspace.reserve_exact(words);
-        b.report.reserve_exact(length);
-    }
-    b.workspace.resize(words + BEHIND, 0);
-    b.report.resize(length + BEHIND, 0);
-    b.workspace.iter_mut().enumerate().for_each(|(at, word)| *word = word_before(start, at));
-    b.report.iter_mut().enumerate().for_each(|(at, byte)| *byte = byte_before(start, at));
+    b.prepare(words, length, start);
     let (workspace, report) = (&mut b.workspace[..words], &mut b.report[..length]);
     let answer = match guarded(|| port::check(bytes, workspace, report, bounds.limit)) {
         Ok(answer) => answer,
