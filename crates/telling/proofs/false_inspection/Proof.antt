@@ -1,14 +1,14 @@
--- `measuring::false_inspection` meets its contract.
+-- `telling::false_inspection` meets its contract.
 use mathlib.Core.Path.{sym, ap, _∙_}
 use mathlib.Core.Bool.{Bool, cond}
 use mathlib.Core.Logic.{⊎-elim}
 use borrow.Author.Tests.{eq-eqb, ne-eqb}
 use Rattle.masks.specs.Names.{ENUM, STRUCT}
 use denote.Ref.{now}
-use Rattle.measuring.specs.Told.{false-by}
+use Rattle.telling.specs.Told.{false-by}
 use borrow.Author.Needs.{needs}
-use Rattle.measuring.proofs.false_inspection.Statement.{statement}
-use Rattle.measuring.proofs.false_inspection.Tie as tie
+use Rattle.telling.proofs.false_inspection.Statement.{statement}
+use Rattle.telling.proofs.false_inspection.Tie as tie
 
 top-mask-requires : tie.Need-top-mask-requires
 top-mask-requires c κs = search needs

@@ -1,8 +1,8 @@
--- `measuring::is_guard` meets its contract: a case for each check.
-use Rattle.measuring.specs.Guards.{isGuard}
+-- `telling::is_guard` meets its contract: a case for each check.
+use Rattle.telling.specs.Guard.{isGuard}
 use borrow.Author.Needs.{needs}
-use Rattle.measuring.proofs.is_guard.Statement.{statement}
-use Rattle.measuring.proofs.is_guard.Tie as tie
+use Rattle.telling.proofs.is_guard.Statement.{statement}
+use Rattle.telling.proofs.is_guard.Tie as tie
 
 enum-told : tie.Need-enum-told
 enum-told c = search needs

@@ -1,9 +1,9 @@
--- `measuring::known_branch` meets its contract.
+-- `telling::known_branch` meets its contract.
 use denote.Ref.{now}
-use Rattle.measuring.specs.Told.{decided-by}
+use Rattle.telling.specs.Told.{decided-by}
 use borrow.Author.Needs.{needs}
-use Rattle.measuring.proofs.known_branch.Statement.{statement}
-use Rattle.measuring.proofs.known_branch.Tie as tie
+use Rattle.telling.proofs.known_branch.Statement.{statement}
+use Rattle.telling.proofs.known_branch.Tie as tie
 
 top-mask-requires : tie.Need-top-mask-requires
 top-mask-requires c κs = search needs

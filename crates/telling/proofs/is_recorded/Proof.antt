@@ -1,11 +1,11 @@
--- `measuring::is_recorded` meets its contract.
+-- `telling::is_recorded` meets its contract.
 use mathlib.Core.Path.{ap}
 use mathlib.Core.Bool.{not}
 use Prim.Native.Nat.{ℕ}
 use lib.Dec.{eqb}
 use borrow.Author.Needs.{needs}
-use Rattle.measuring.proofs.is_recorded.Statement.{statement}
-use Rattle.measuring.proofs.is_recorded.Tie as tie
+use Rattle.telling.proofs.is_recorded.Statement.{statement}
+use Rattle.telling.proofs.is_recorded.Tie as tie
 
 row-height-requires : tie.Need-row-height-requires
 row-height-requires c κs = search needs

@@ -1,14 +1,14 @@
--- `measuring::branch_value` meets its contract.
+-- `telling::branch_value` meets its contract.
 use Prim.Native.Nat.{ℕ}
 use mathlib.Core.Path.{_∙_, sym, ap}
 use mathlib.Core.Bool.{Bool, cond}
 use Rattle.masks.specs.declared.Mask.{Mask}
 use Rattle.masks.specs.Mask.{same}
 use Rattle.masks.specs.Names.{TRUE}
-use Rattle.measuring.specs.Told.{wayIn}
+use Rattle.telling.specs.Told.{wayIn}
 use borrow.Author.Needs.{needs}
-use Rattle.measuring.proofs.branch_value.Statement.{statement}
-use Rattle.measuring.proofs.branch_value.Tie as tie
+use Rattle.telling.proofs.branch_value.Statement.{statement}
+use Rattle.telling.proofs.branch_value.Tie as tie
 
 top-mask-requires : tie.Need-top-mask-requires
 top-mask-requires c κs = search needs

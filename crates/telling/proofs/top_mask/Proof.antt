@@ -1,4 +1,4 @@
--- `measuring::top_mask` meets its contract: no stack, or the place at its end.
+-- `telling::top_mask` meets its contract: no stack, or the place at its end.
 use native.Mathlib.Omega.{arith}
 use Prim.Native.Nat.{ℕ}
 use Rattle.words.specs.Layout.{cellAt}
@@ -7,10 +7,10 @@ use denote.Ref.{now}
 use Rattle.cells.specs.declared.Cell.{Cell}
 use Rattle.definition.specs.Start.{last}
 use Rattle.held.specs.Args.{none-mask}
-use Rattle.measuring.specs.Told.{top-is, top-none}
+use Rattle.telling.specs.Told.{top-is, top-none}
 use borrow.Author.Needs.{needs}
-use Rattle.measuring.proofs.top_mask.Statement.{statement}
-use Rattle.measuring.proofs.top_mask.Tie as tie
+use Rattle.telling.proofs.top_mask.Statement.{statement}
+use Rattle.telling.proofs.top_mask.Tie as tie
 
 row-height-requires : tie.Need-row-height-requires
 row-height-requires c κs = search needs
