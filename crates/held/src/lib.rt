@@ -9,7 +9,7 @@ use ops::Rule;
 pub use slots::Slots;
 pub use slots::slots_of;
 use words::load;
-use words::mask_at;
+use peek::mask_at;
 ghost use mathlib.Core.Path.{_≡_};
 ghost use Prim.Native.Nat.{_<_};
 ghost use lib.ListN.{getD};

@@ -5,7 +5,7 @@ use index::row_height;
 use layout::Chunk;
 use layout::place_at;
 use masks::Mask;
-use words::mask_at;
+use peek::mask_at;
 ghost use mathlib.Core.Path.{_≡_};
 ghost use mathlib.Core.Bool.{cond};
 ghost use Prim.Native.Nat.{_+_, _*_, _<_, _≤_};
