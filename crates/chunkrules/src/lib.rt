@@ -2,11 +2,11 @@
 use description::ChunkHead;
 use description::params_at;
 use description::params_of;
-use description::shape_at;
 use description::tags_at;
 use formrules::low;
 use formrules::shape_fine;
 use le::u8_at;
+use shapes::shape_at;
 ghost use mathlib.Core.Path.{_≡_};
 ghost use mathlib.Core.Bool.{_&&_};
 ghost use Prim.Native.Nat.{_<_, _≤_, _^_};

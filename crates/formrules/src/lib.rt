@@ -1,8 +1,8 @@
 // The rules of the form, one field at a time: the lowest number of a fault, or 0. Those of a chunk field stand in `chunkrules`, those of an
 // instruction in `instrrules`.
 use description::Header;
-use description::shape_at;
 use le::u8_at;
+use shapes::shape_at;
 use widths::Shape;
 ghost use mathlib.Core.Path.{_≡_};
 ghost use Prim.Native.Nat.{_<_, _^_};

@@ -1,12 +1,12 @@
 // Shapes, natives and slots, found from a stored base.
-use description::declared_result;
-use description::param_at;
-use description::shape_at;
 use layout::Chunk;
 use layout::Tables;
 use layout::slot_at;
 use le::u8_at;
 use masks::Mask;
+use shapes::declared_result;
+use shapes::param_at;
+use shapes::shape_at;
 use widths::Shape;
 ghost use mathlib.Core.Path.{_≡_};
 ghost use Prim.Native.Nat.{_+_, _*_, _<_, _≤_, _^_};

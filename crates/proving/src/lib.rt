@@ -2,8 +2,6 @@
 use definition::Ask;
 use definition::Check;
 use definition::Want;
-use description::declared_result;
-use description::site_yielded;
 use extents::BodyExtent;
 use extents::Extent;
 use held::Visit;
@@ -18,6 +16,8 @@ use masks::Mask;
 use ops::Asks;
 use ops::Makes;
 use peek::mask_at;
+use shapes::declared_result;
+use shapes::site_yielded;
 use slots::write_check;
 use wants::meet;
 use wants::require;

@@ -1,8 +1,8 @@
--- `description::param_at` meets its contract.
+-- `shapes::param_at` meets its contract.
 use Rattle.description.specs.Fields.{paramOf}
 use native.Mathlib.Omega.{arith}
-use Rattle.description.proofs.param_at.Statement.{statement}
-use Rattle.description.proofs.param_at.Tie as tie
+use Rattle.shapes.proofs.param_at.Statement.{statement}
+use Rattle.shapes.proofs.param_at.Tie as tie
 
 params-at-requires : tie.Need-params-at-requires
 params-at-requires c κs = omega arith

@@ -1,8 +1,8 @@
--- `description::declared_result` meets its contract.
+-- `shapes::declared_result` meets its contract.
 use Rattle.description.specs.Fields.{resultOf}
 use native.Mathlib.Omega.{arith}
-use Rattle.description.proofs.declared_result.Statement.{statement}
-use Rattle.description.proofs.declared_result.Tie as tie
+use Rattle.shapes.proofs.declared_result.Statement.{statement}
+use Rattle.shapes.proofs.declared_result.Tie as tie
 
 params-of-requires : tie.Need-params-of-requires
 params-of-requires c κs = omega arith

@@ -1,8 +1,8 @@
--- `description::site_reply` meets its contract.
+-- `shapes::site_reply` meets its contract.
 use Rattle.description.specs.Fields.{replyOf}
 use native.Mathlib.Omega.{arith}
-use Rattle.description.proofs.site_reply.Statement.{statement}
-use Rattle.description.proofs.site_reply.Tie as tie
+use Rattle.shapes.proofs.site_reply.Statement.{statement}
+use Rattle.shapes.proofs.site_reply.Tie as tie
 
 next-at-requires : tie.Need-next-at-requires
 next-at-requires c κs = omega arith

@@ -1,8 +1,8 @@
--- `description::shape_at` meets its contract.
+-- `shapes::shape_at` meets its contract.
 use Rattle.description.specs.Fields.{shapeOf}
 use native.Mathlib.Omega.{arith}
-use Rattle.description.proofs.shape_at.Statement.{statement}
-use Rattle.description.proofs.shape_at.Tie as tie
+use Rattle.shapes.proofs.shape_at.Statement.{statement}
+use Rattle.shapes.proofs.shape_at.Tie as tie
 
 u8-at-requires : tie.Need-u8-at-requires
 u8-at-requires c κs = tt

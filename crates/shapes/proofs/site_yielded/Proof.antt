@@ -1,8 +1,8 @@
--- `description::site_yielded` meets its contract.
+-- `shapes::site_yielded` meets its contract.
 use Rattle.description.specs.Fields.{yieldedOf}
 use native.Mathlib.Omega.{arith}
-use Rattle.description.proofs.site_yielded.Statement.{statement}
-use Rattle.description.proofs.site_yielded.Tie as tie
+use Rattle.shapes.proofs.site_yielded.Statement.{statement}
+use Rattle.shapes.proofs.site_yielded.Tie as tie
 
 next-at-requires : tie.Need-next-at-requires
 next-at-requires c κs = omega arith
