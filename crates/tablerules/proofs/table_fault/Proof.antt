@@ -1,9 +1,9 @@
--- `formrules::table_fault` meets its contract.
+-- `tablerules::table_fault` meets its contract.
 use Rattle.definition.specs.Form.{tableFault}
 use borrow.Author.Tests.{ne-eqb}
 use borrow.Author.Needs.{needs}
-use Rattle.formrules.proofs.table_fault.Statement.{statement}
-use Rattle.formrules.proofs.table_fault.Tie as tie
+use Rattle.tablerules.proofs.table_fault.Statement.{statement}
+use Rattle.tablerules.proofs.table_fault.Tie as tie
 
 add-shape-at : tie.Need-add-shape-at
 add-shape-at c = search needs
