@@ -1,8 +1,8 @@
 // The visit of an instruction found in the workspace, and what all its operands come to.
 use extents::Extent;
+use fetching::instr_of;
 use held::Visit;
 use index::field_of;
-use index::instr_of;
 use index::row_height;
 use layout::Chunk;
 use layout::Tables;

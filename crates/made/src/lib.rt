@@ -1,6 +1,6 @@
 // What an instruction makes of its operands, from masks and cells.
 ghost use mathlib.Core.Path.{_≡_};
-ghost use Rattle.definition.specs.Outputs.{bitsMask, ifHas, negation, withPredicate, withOrigin, inspection, predicateOn, tested};
+ghost use Rattle.definition.specs.Outputs.{withPredicate, withOrigin, inspection, predicateOn, tested};
 ghost use Rattle.made.specs.Made.{statusMask, secondBy, restBy};
 use cells::Cell;
 use description::Instr;
@@ -9,33 +9,6 @@ use flows::Origin;
 use flows::Predicate;
 use masks::Mask;
 use ops::Others;
-
-// WORD, where it is common to all operands, else the first's kinds.
-pub fn bits_mask(first: Mask, common: Mask) -> Mask
-    ensures { λ r. ⌜ r ≡ bitsMask first common ⌝ }
-{
-    let word = common.common(Mask::WORD);
-    if word.one_kind() {
-        return word;
-    }
-    first.kind()
-}
-
-fn if_has(mask: Mask, kind: Mask, then: Mask) -> Mask
-    ensures { λ r. ⌜ r ≡ ifHas mask kind then ⌝ }
-{
-    if mask.has(kind) {
-        return then;
-    }
-    Mask::NONE
-}
-
-// FALSE where TRUE is possible, and TRUE where FALSE is.
-pub fn negation(first: Mask) -> Mask
-    ensures { λ r. ⌜ r ≡ negation first ⌝ }
-{
-    if_has(first, Mask::TRUE, Mask::FALSE).union(if_has(first, Mask::FALSE, Mask::TRUE))
-}
 
 // A native that gives two values gives a word second.
 fn status_mask(given: u8) -> Mask
