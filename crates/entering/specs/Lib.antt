@@ -3,4 +3,3 @@ pub mod Reach
 pub mod Rows
 pub mod Began
 pub mod Rounds
-pub mod Fault

@@ -1,5 +1,5 @@
 -- What each case of an answer comes to.
-use Prim.Native.Nat.{ℕ, _+_, _<_}
+use Prim.Native.Nat.{ℕ, _+_, _%_, _<_}
 use native.Mathlib.Omega.{arith}
 use mathlib.Core.Path.{_≡_, refl, sym, _∙_, ap}
 use mathlib.Core.List.{List, [], _∷_}
@@ -14,40 +14,47 @@ use Rattle.definition.specs.declared.Form.{Form}
 use Rattle.definition.specs.declared.Form.the-variants.{Fine, Refused}
 use Rattle.definition.specs.Form.{formOf}
 use Rattle.definition.specs.Module.{moduleOf}
+use Rattle.definition.specs.Call.{call}
 use Rattle.reading.specs.Read.{readReport}
 use Rattle.consistent.specs.Consistent.{Consistent}
 use Rattle.goodform.specs.Theorem.{good-form}
 use Rattle.find.specs.declared.Part.{Part}
 use Rattle.numbers.specs.Calls.{refused-numbers}
 use Rattle.checking.specs.Checked.{Checked}
-use Rattle.facts_c.specs.Called.{CallOf, formNumber, leastWords, WordsOf, PartOf}
+use Rattle.facts_c.specs.Called.{inWords, CallOf, formNumber, leastWords, WordsOf, PartOf}
 
-pub in-accepted : (a : Answer) (length steps : ℕ) → a ≡ Accepted length steps → 0 ∷ (65535 ∷ (65535 ∷ (steps ∷ (length ∷ [])))) ≡ numbers a
-unfolding numbers
+pub in-accepted : (a : Answer) (length steps : ℕ) → a ≡ Accepted length steps
+    → 0 ∷ (65535 ∷ (65535 ∷ (steps ∷ (length % 4294967296 ∷ [])))) ≡ inWords (numbers a)
+unfolding numbers inWords
 in-accepted a length steps e = rw e
 
-pub in-refused : (a : Answer) (r : Refusal) → a ≡ Turned r → r .number ∷ (r .chunk ∷ (r .instruction ∷ (r .steps ∷ (0 ∷ [])))) ≡ numbers a
-unfolding numbers
+pub in-refused : (a : Answer) (r : Refusal) → a ≡ Turned r → r .number ∷ (r .chunk ∷ (r .instruction ∷ (r .steps ∷ (0 ∷ [])))) ≡ inWords (numbers a)
+unfolding numbers inWords
 in-refused a r e = rw e
+
+first-word : (a : Answer) → getD (inWords (numbers a)) 0 0 ≡ getD (numbers a) 0 0
+unfolding numbers inWords
+first-word (Accepted long steps) = refl
+first-word (Turned r) = refl
 
 -- the call with its answer in numbers
 module _ (s ws buf : List ℕ) (limit : ℕ) where
-  consistent-by : (a : Answer) (buf′ ws′ : List ℕ) → Checked s ws buf limit a buf′ ws′ → getD (numbers a) 0 0 ≡ 0
-      → Consistent (moduleOf s) (readReport (take (getD (numbers a) 4 0) buf′))
+  accepted-by : (a : Answer) (buf′ ws′ : List ℕ) → Checked s ws buf limit a buf′ ws′ → getD (numbers a) 0 0 ≡ 0
+      → (long : ℕ) × (steps : ℕ) × (call s ws buf limit .answer ≡ Accepted long steps) × Consistent (moduleOf s) (readReport (take long buf′))
   unfolding numbers
-  consistent-by (Accepted long steps) buf′ ws′ k z = k .consistent long steps refl
-  consistent-by (Turned r) buf′ ws′ k z = absurd (omega (arith, refused-numbers s ws buf limit r (sym (k .answer)) .0))
+  accepted-by (Accepted long steps) buf′ ws′ k z = (long, steps, sym (k .answer), k .consistent long steps refl)
+  accepted-by (Turned r) buf′ ws′ k z = absurd (omega (arith, refused-numbers s ws buf limit r (sym (k .answer)) .0))
 
-  pub called : (a : Answer) (r : ℕ) (out buf′ ws′ : List ℕ) → Checked s ws buf limit a buf′ ws′ → out ≡ numbers a → r ≡ getD (numbers a) 0 0
+  pub called : (a : Answer) (r : ℕ) (out buf′ ws′ : List ℕ) → Checked s ws buf limit a buf′ ws′ → out ≡ inWords (numbers a) → r ≡ getD (numbers a) 0 0
       → CallOf s ws buf limit r out buf′ ws′
   called a r out buf′ ws′ k e n =
       rw e
       (record {
-        answer = ap numbers (k .answer);
-        number = n;
+        answer = ap (λ (x : Answer). inWords (numbers x)) (k .answer);
+        number = n ∙ sym (first-word a);
         report = k .report;
         workspace = k .workspace;
-        consistent = λ z. consistent-by a buf′ ws′ k (sym n ∙ z);
+        accepted = λ z. accepted-by a buf′ ws′ k (sym n ∙ z);
       })
 
 pub words-turned : (f : Form) (r : Refusal) → f ≡ Refused r → WordsOf f (r .number) (0 ∷ [])

@@ -9,23 +9,15 @@ ghost use lib.ListN.{getD};
 ghost use Rattle.answers.specs.Answers.{numbers};
 ghost use Rattle.definition.specs.Form.{formOf};
 ghost use Rattle.find.specs.Find.{found};
-ghost use Rattle.facts_c.specs.Called.{CallOf, WordsOf, PartOf};
+ghost use Rattle.facts_c.specs.Called.{inWords, CallOf, WordsOf, PartOf};
 
-// An answer as five numbers.
-fn in_numbers(answer: Answer) -> [u64; 5]
-    ensures { λ r. ⌜ r ≡ numbers answer ⌝ }
+// An answer as five words.
+fn in_words(answer: Answer) -> [u32; 5]
+    ensures { λ r. ⌜ r ≡ inWords (numbers answer) ⌝ }
 {
     match answer {
-        Answer::Accepted { length, steps } => [0, 65535, 65535, steps as u64, length as u64],
-        Answer::Refused(r) => {
-            [
-                r.number as u64,
-                r.chunk as u64,
-                r.instruction as u64,
-                r.steps as u64,
-                0,
-            ]
-        }
+        Answer::Accepted { length, steps } => [0, 65535, 65535, steps, (length % 4294967296) as u32],
+        Answer::Refused(r) => [r.number as u32, r.chunk as u32, r.instruction as u32, r.steps, 0],
     }
 }
 
@@ -49,14 +41,14 @@ pub extern "C" fn facts_check(
     workspace: &mut [u32],
     report: &mut [u8],
     limit: u32,
-    answer: &mut [u64; 5],
+    answer: &mut [u32; 5],
 ) -> u32
     ensures { λ r. ⌜
         CallOf (now (description .entry)) (now (workspace .entry)) (now (report .entry)) limit r (now (answer .exit)) (now (report .exit)) (now (workspace .exit))
         ⌝ }
 {
     let given = check(description, workspace, report, limit);
-    *answer = in_numbers(given);
+    *answer = in_words(given);
     number_of(given)
 }
 

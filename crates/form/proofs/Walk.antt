@@ -15,7 +15,7 @@ use Rattle.definition.specs.declared.Form.{Form}
 use Rattle.definition.specs.declared.Form.the-variants.{Refused}
 use Rattle.definition.specs.Form.{fieldStep, finished, onStep, scanFrom, unscanned, formOf}
 use Rattle.late.specs.Counted.{counted}
-use Rattle.steps.specs.Bounds.{Bounded}
+use Rattle.codesteps.specs.Bounds.{Bounded}
 use Rattle.form.proofs.Within.{After, go-after, go-inside}
 
 -- from the field at p on the walk gives w, nothing passes its bound, and what the late looks count is what they count from here on

@@ -20,7 +20,7 @@ use Rattle.definition.specs.declared.Step.the-variants.{Go, Stop}
 use Rattle.definition.specs.Module.{signedParams}
 use Rattle.definition.specs.Form.{nowhere, headerFault, chunkFault, instrFault, siteFault, tableFault, orStop, inField, headerStep, chunkStep, instrStep, placed, siteStep, soFar, tableStep, fieldStep}
 use Rattle.late.specs.Counted.{counted}
-use Rattle.steps.specs.Bounds.{Bounded, so-far-le}
+use Rattle.codesteps.specs.Bounds.{Bounded, so-far-le}
 
 -- ---- what a step leaves
 pub record After (s : List ℕ) (p : ℕ) (t u : Scan) : Type 0 where

@@ -15,7 +15,7 @@ ghost use lib.ListN.{length};
 ghost use Rattle.description.specs.Fields.{fieldsFrom};
 ghost use Rattle.definition.specs.Form.{afterLook, finished, formOf};
 ghost use Rattle.late.specs.Counted.{counted};
-ghost use Rattle.steps.specs.Bounds.{Bounded};
+ghost use Rattle.codesteps.specs.Bounds.{Bounded};
 
 fn after_look(late: Refusal, words: u64) -> Form
     ensures { λ r. ⌜ r ≡ afterLook late words ⌝ }

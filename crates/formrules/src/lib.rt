@@ -1,12 +1,11 @@
 // The rules of the form, one field at a time: the lowest number of a fault, or 0. Those of a chunk field stand in `chunkrules`, those of an
 // instruction in `instrrules`.
 use description::Header;
-use description::shape_at;
-use le::u8_at;
+use shapes::shape_at;
 use widths::Shape;
 ghost use mathlib.Core.Path.{_≡_};
 ghost use Prim.Native.Nat.{_<_, _^_};
-ghost use Rattle.definition.specs.Form.{lowest, headerFault, shapeFine, siteFault, tableFault};
+ghost use Rattle.definition.specs.Form.{lowest, headerFault, shapeFine, siteFault};
 
 // The lowest of the numbers whose fault is there, or 0.
 pub fn low(one: bool, two: bool, three: bool, four: bool) -> u8
@@ -51,35 +50,4 @@ pub fn site_fault(s: &[u8], p: usize, due: bool, len: u16) -> u8
     let yielded = shape_fine(shape_at(s, p + 3));
     let reply = shape_fine(shape_at(s, p + 10));
     low(!due | (len != 14) | !yielded | !reply, false, false, false)
-}
-
-// A field of tags 5 to 8, after so many of its tag.
-pub fn table_fault(s: &[u8], p: usize, tag: u8, due: bool, len: u16, count: u32) -> u8
-    requires { ⌜ p < 2 ^ 61 ⌝ }
-    ensures { λ r. ⌜ r ≡ tableFault (now (s .entry)) p tag due len count ⌝ }
-{
-    if tag == 5 {
-        let shaped = shape_fine(shape_at(s, p + 3));
-        let flag = u8_at(s, p + 10);
-        return low(
-            !due | (len != 8) | !shaped | (1 < flag),
-            255 < count,
-            false,
-            false,
-        );
-    }
-    if tag == 6 {
-        return low(!due | (len != 1), 1023 < count, false, false);
-    }
-    if tag == 7 {
-        return low(!due | (len != 6), 1023 < count, false, false);
-    }
-    let place = u8_at(s, p + 3);
-    let flag = u8_at(s, p + 4);
-    low(
-        !due | (len != 2) | (11 < place) | (1 < flag),
-        1023 < count,
-        false,
-        false,
-    )
 }

@@ -3,5 +3,4 @@ pub mod Frames
 pub mod Taken
 pub mod Cells
 pub mod Slots
-pub mod Merge
 pub mod Gifts

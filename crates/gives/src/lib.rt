@@ -1,4 +1,4 @@
-// What a visit adds to the facts, in the rounds: callee inputs, a result, private flows and writes; and the end of a round.
+// What a visit adds to the facts, in the rounds: callee inputs, a result, private flows and writes.
 use cells::Cell;
 use flows::Flow;
 use flows::Owned;
@@ -6,7 +6,6 @@ use held::Visit;
 use held::operand;
 use held::slots_of;
 use index::chunk_at;
-use index::slot_placed;
 use keep::join_one;
 use layout::Chunk;
 use layout::Tables;
@@ -14,10 +13,11 @@ use layout::input_at;
 use layout::place_at;
 use layout::result_at;
 use layout::slot_at;
+use listed::slot_placed;
 use masks::Mask;
 use ops::Acts;
+use peek::mask_at;
 use words::load;
-use words::mask_at;
 use words::store;
 ghost use mathlib.Core.Path.{_≡_};
 ghost use mathlib.Core.List.{[], _∷_, map};
@@ -32,13 +32,13 @@ ghost use Rattle.definition.specs.State.{arguments, written};
 ghost use Rattle.definition.specs.Data.{slotsFrom, dataFault};
 ghost use Rattle.definition.specs.Outputs.{noCell};
 ghost use Rattle.definition.specs.Wants.{isEntry};
-ghost use Rattle.definition.specs.Leaves.{always, gives, absorb, opened, closed, moved, storedFlow, writeSlot};
+ghost use Rattle.definition.specs.Leaves.{always, gives, absorb, moved, storedFlow, writeSlot};
 ghost use Rattle.layout.specs.Layout.{placeAt};
 ghost use Rattle.layout.specs.Indexed.{Indexed, tablesOf, chunkAt};
 ghost use Rattle.keep.specs.Arrive.{Places, Arrived};
 ghost use Rattle.held.specs.Held.{Looking, argsIn, visitIn, liveIn};
 ghost use Rattle.course.specs.Course.{FactsOnly};
-ghost use Rattle.gives.specs.Taken.{Took, Written, Flowed, Merged, withLow};
+ghost use Rattle.gives.specs.Taken.{Took, Written, Flowed, withLow};
 
 // The cells from on are joined into the n facts between chunks that stand to on; whether one changed.
 fn join_facts(ws: &mut [u32], from: usize, to: usize, n: usize) -> bool
@@ -105,7 +105,7 @@ fn stored_flow(flow: Flow) -> Flow
 }
 
 // The word keeps what stands above its low 16 bits.
-fn put_low(ws: &mut [u32], at: usize, low: u16)
+pub fn put_low(ws: &mut [u32], at: usize, low: u16)
     requires { ⌜ at < length (now ws) ⌝ }
     ensures { λ r. ⌜ (now (ws .exit) ≡ withLow (now (ws .entry)) at low) × (low < 65536) ⌝ }
 {
@@ -225,36 +225,4 @@ pub fn give(
         },
         _ => changed,
     }
-}
-
-// One slot's writes go into its private mask; whether it changed.
-fn merge_slot(ws: &mut [u32], at: usize) -> bool
-    requires { ⌜ at + 16 ≤ length (now ws) ⌝ }
-    ensures { λ r. ⌜ Merged at (now (ws .entry)) (now (ws .exit)) r ⌝ }
-{
-    let last = at + 15;
-    let old = mask_at(ws, at);
-    let new = old.union(mask_at(ws, last));
-    put_low(ws, at, new.bits);
-    put_low(ws, last, 0);
-    !old.same(new)
-}
-
-// The end of a round: each slot's writes go into its private mask; whether the facts moved in the round.
-pub fn merge_writes(s: &[u8], ws: &mut [u32], t: Tables, changed: bool) -> bool
-    requires { ⌜ Indexed (now s) (now ws) ⌝ }
-    requires { ⌜ t ≡ tablesOf (now s) ⌝ }
-    ensures { λ r. ⌜
-        FactsOnly (now (s .entry)) (now (ws .entry)) (now (ws .exit))
-        × (r ≡ moved (liveIn (now (s .entry)) (now (ws .entry)) changed))
-        × (liveIn (now (s .entry)) (now (ws .exit)) false ≡ opened (closed (liveIn (now (s .entry)) (now (ws .entry)) changed)))
-        ⌝ }
-{
-    let mut k = 0;
-    let mut moved = changed;
-    while k < t.slots {
-        moved = moved | merge_slot(ws, slot_at(t, k));
-        k += 1;
-    }
-    moved
 }

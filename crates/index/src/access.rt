@@ -1,6 +1,4 @@
-// A chunk's numbers, and its instructions.
-use description::Instr;
-use heads::instr_at;
+// A chunk's numbers, and its rows.
 use layout::Chunk;
 use layout::numbers_at;
 use layout::row_at;
@@ -9,10 +7,7 @@ ghost use Prim.Native.Nat.{_+_, _*_, _<_, _≤_, _^_};
 ghost use mathlib.Core.Bool.{not};
 ghost use lib.Dec.{eqb};
 ghost use lib.ListN.{length, getD, set};
-ghost use Rattle.le.specs.Le.{at32};
-ghost use Rattle.description.specs.Fields.{instrOf};
 ghost use Rattle.definition.specs.Module.{moduleOf};
-ghost use Rattle.goodform.specs.Good.{chunkNo, lineNo};
 ghost use Rattle.layout.specs.Indexed.{Indexed, chunkPlace, chunkAt};
 ghost use Rattle.layout.specs.Read.{chunkRead};
 
@@ -84,54 +79,4 @@ pub fn field_of(s: &[u8], ws: &[u32], c: usize, ch: Chunk, i: usize) -> usize
     ensures { λ r. ⌜ r ≡ getD (chunkPlace (now (s .entry)) c .code) i 0 ⌝ }
 {
     word(ws, row_at(ch, i) + 1)
-}
-
-fn wide(x: u8) -> u32
-    ensures { λ r. ⌜ (r ≡ x) × (r < 256) ⌝ }
-{
-    x as u32
-}
-
-// A number of four bytes within the description.
-fn four(s: &[u8], p: usize) -> u32
-    requires { ⌜ p + 4 ≤ length (now s) ⌝ }
-    ensures { λ r. ⌜ r ≡ at32 (now (s .entry)) p ⌝ }
-{
-    wide(s[p]) + 256 * wide(s[p + 1]) + 65536 * wide(s[p + 2]) + 16777216 * wide(s[p + 3])
-}
-
-// An instruction's field within the description: one test for all its bytes.
-fn instr_in(s: &[u8], p: usize) -> Instr
-    requires { ⌜ p + 18 ≤ length (now s) ⌝ }
-    ensures { λ r. ⌜ r ≡ instrOf (now (s .entry)) p ⌝ }
-{
-    Instr {
-        op: s[p + 3],
-        taken: s[p + 4],
-        given: s[p + 5],
-        a: four(s, p + 6),
-        b: four(s, p + 10),
-        c: four(s, p + 14),
-    }
-}
-
-// A field of good form lies within.
-fn read_instr(s: &[u8], p: usize) -> Instr
-    requires { ⌜ p < 2 ^ 62 ⌝ }
-    ensures { λ r. ⌜ r ≡ instrOf (now (s .entry)) p ⌝ }
-{
-    if p + 17 < s.len() {
-        return instr_in(s, p);
-    }
-    instr_at(s, p)
-}
-
-pub fn instr_of(s: &[u8], ws: &[u32], c: usize, ch: Chunk, i: usize) -> Instr
-    requires { ⌜ Indexed (now s) (now ws) ⌝ }
-    requires { ⌜ c < length (moduleOf (now s) .chunks) ⌝ }
-    requires { ⌜ ch ≡ chunkAt (now s) (now ws) c ⌝ }
-    requires { ⌜ i < ch .count ⌝ }
-    ensures { λ r. ⌜ r ≡ lineNo (chunkNo (moduleOf (now (s .entry))) c) i .instr ⌝ }
-{
-    read_instr(s, field_of(s, ws, c, ch, i))
 }

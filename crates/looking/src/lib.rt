@@ -1,8 +1,8 @@
 // The visit of an instruction found in the workspace, and what all its operands come to.
 use extents::Extent;
+use fetching::instr_of;
 use held::Visit;
 use index::field_of;
-use index::instr_of;
 use index::row_height;
 use layout::Chunk;
 use layout::Tables;
@@ -12,8 +12,8 @@ use masks::Mask;
 use ops::rule_of;
 use packing::Packed;
 use packing::packed_one;
+use peek::mask_at;
 use words::load;
-use words::mask_at;
 ghost use mathlib.Core.Path.{_≡_};
 ghost use Prim.Native.Nat.{_+_, _-_, _<_, _≤_};
 ghost use lib.ListN.{length, getD};

@@ -1,8 +1,7 @@
 -- What the definition says of a visit's outputs, from the values that the code is given; each is the definition's of any visit.
 use Prim.Native.Nat.{ℕ, _%_, _<_}
 use mathlib.Core.Path.{_≡_, refl}
-use mathlib.Core.Bool.{Bool, true, cond}
-use mathlib.Core.Option.{none, some}
+use mathlib.Core.Bool.{cond}
 use native.Mathlib.Nat.{mod-eq-of-lt}
 use native.Mathlib.Omega.{arith}
 use lib.Dec.{eqb}
@@ -10,19 +9,15 @@ use lib.ListN.{getD}
 use borrow.Author.Tests.{lt-ltb}
 use Rattle.masks.specs.declared.Mask.{Mask}
 use Rattle.masks.specs.Names.{WORD, UNKNOWN}
-use Rattle.widths.specs.declared.Shape.{Shape}
-use Rattle.widths.specs.Shape.{shapeMask, declaredWidth}
 use Rattle.flows.specs.declared.Origin.the-variants.{Local}
 use Rattle.flows.specs.Flow.{negated}
 use Rattle.cells.specs.declared.Cell.{Cell}
-use Rattle.cells.specs.Cell.{made, ownedWidth}
+use Rattle.cells.specs.Cell.{made}
 use Rattle.description.specs.declared.Instr.{Instr}
-use Rattle.ops.specs.declared.Makes.the-variants.{Constant, Local as NamedLocal, Reply, Negation, OneKind, Part, NativeValue}
+use Rattle.ops.specs.declared.Makes.the-variants.{Local as NamedLocal, Negation, OneKind}
 use Rattle.ops.specs.declared.Others.{Others}
 use Rattle.ops.specs.declared.Others.the-variants.{Unknowns, Words, Checked, Copies, Tested, Status}
-use Rattle.definition.specs.Module.{Site, Native}
-use Rattle.definition.specs.Data.{fresh}
-use Rattle.definition.specs.Outputs.{Visit, noCell, arg, instr, shared, bitsMask, negation, withPredicate, withOrigin, originAt, constantCell, fieldCell, ownedIf, nativeCell, at, replyShape, replyCell, tested, firstOutput, secondOutput, restOutput, madeFrom, outputs}
+use Rattle.definition.specs.Outputs.{Visit, noCell, arg, instr, shared, bitsMask, negation, withPredicate, withOrigin, originAt, tested, firstOutput, secondOutput, restOutput, madeFrom, outputs}
 
 -- a native that gives two values gives a word second
 unfoldable pub statusMask : ℕ → Mask
@@ -43,9 +38,6 @@ restBy Checked first float = made WORD float
 restBy Copies first float = first
 restBy (Tested k) first float = made UNKNOWN float
 restBy Status first float = made UNKNOWN float
-
-unfoldable pub nativeBy : Shape → Bool → Cell
-nativeBy s snapshot = fresh (shapeMask s) (declaredWidth s) (ownedIf snapshot)
 
 pub second-by : (v : Visit) (o : Others) (first : Cell) → secondOutput v o first ≡ secondBy o (instr v) first (v .code .float)
 unfolding secondOutput secondBy statusMask
@@ -76,25 +68,12 @@ pub outputs-by : (v : Visit) (first : Cell) → first ≡ firstOutput v (v .rule
 unfolding outputs madeFrom
 outputs-by v first h = rw (← h, second-by, rest-by)
 
-pub native-by : (n : Native) (float : ℕ) → nativeCell (some n) float ≡ nativeBy (n .shape) (n .snapshot)
-unfolding nativeCell nativeBy
-native-by n float = refl
-
 -- the first output in the cases that the code of this crate makes
-pub first-constant : (v : Visit) → firstOutput v Constant ≡ constantCell (instr v) (v .code .float)
-unfolding firstOutput
-first-constant v = refl
-
 -- a local that an instruction of good form names
 pub first-local : (v : Visit) → instr v .a < 65535
     → firstOutput v NamedLocal ≡ withOrigin (getD (v .locals) (instr v .a) noCell) (Local (instr v .a % 65536))
 unfolding firstOutput originAt
 first-local v h = let l : instr v .a < 65536 = omega arith in rw (lt-ltb _ _ h, mod-eq-of-lt l)
-
-pub first-reply : (v : Visit) (x : Site) → v .line .site ≡ some x
-    → firstOutput v Reply ≡ fresh (shapeMask (x .reply)) (declaredWidth (x .reply)) (ownedWidth (declaredWidth (x .reply)) true)
-unfolding firstOutput replyCell replyShape
-first-reply v x h = rw h
 
 pub first-negation : (v : Visit)
     → firstOutput v Negation
@@ -105,17 +84,3 @@ first-negation v = refl
 pub first-one-kind : (v : Visit) → firstOutput v OneKind ≡ made (bitsMask (arg v 0 .mask) (shared v)) (v .code .float)
 unfolding firstOutput
 first-one-kind v = refl
-
-pub first-part : (v : Visit) → firstOutput v Part ≡ fieldCell (instr v) (arg v 0 .flow .owned) (v .code .float)
-unfolding firstOutput
-first-part v = refl
-
-pub first-native : (v : Visit) (n : Native) → at (v .code .natives) (instr v .a) ≡ some n
-    → firstOutput v NativeValue ≡ nativeBy (n .shape) (n .snapshot)
-unfolding firstOutput nativeCell nativeBy
-first-native v n h = rw h
-
--- a native past the table
-pub first-no-native : (v : Visit) → at (v .code .natives) (instr v .a) ≡ none → firstOutput v NativeValue ≡ made UNKNOWN (v .code .float)
-unfolding firstOutput nativeCell
-first-no-native v h = rw h

@@ -15,11 +15,7 @@ use Rattle.goodform.specs.Each.{row-length}
 use Rattle.held.specs.declared.Visit.{Visit as Look}
 use Rattle.proving.specs.Proving.{placesBy, foundIn, askedFrom, askedIn}
 use Rattle.proving.specs.Checked.{asked-turn, asked-end}
-
-unfoldable pub isGuard : Check → Bool
-isGuard (Guard m) = true
-isGuard Fine = false
-isGuard Unproven = false
+use Rattle.telling.specs.Guard.{isGuard}
 
 one-more : (p : ℕ) (c : Check) (gs : List Guarded) (b : Bool) → isGuard c ≡ b → length (guardOf p c gs) ≡ cond b 1 0 + length gs
 unfolding isGuard guardOf

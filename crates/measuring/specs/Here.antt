@@ -24,7 +24,7 @@ use Rattle.course.specs.Course.{Ended, Low, LowBefore}
 use Rattle.proving.specs.Proving.{Asking}
 use Rattle.measuring.specs.Reporting.{Faultless}
 use Rattle.measuring.specs.Adds.{recordable}
-use Rattle.measuring.specs.Told.{Stands, recorded}
+use Rattle.telling.specs.Told.{Stands, recorded}
 
 -- what a report is made from
 pub record Finished (s ws : List ℕ) (t : Tables) : Type 0 where

@@ -1,9 +1,8 @@
 pub mod Reporting
 pub mod Span
-pub mod Table
 pub mod Four
 pub mod Adds
-pub mod Told
+pub mod Beside
 pub mod Long
 pub mod Here
 pub mod Guards

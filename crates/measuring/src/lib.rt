@@ -1,21 +1,21 @@
-// The length of the report, and what a row says: its guards, whether its inspection is false, its branch known.
-use definition::Check;
+// The length of the report, and the number of a visit's guards.
 use definition::Want;
 use held::Visit;
 use index::chunk_at;
-use index::row_height;
 use layout::Chunk;
 use layout::Tables;
-use layout::place_at;
 use layout::row_at;
 use looking::visit_at;
-use masks::Mask;
 use proving::check_place;
 use proving::places_asked;
 use proving::want_at;
-use words::mask_at;
+use telling::false_inspection;
+use telling::is_guard;
+use telling::is_recorded;
+use telling::known_branch;
+use telling::record_len;
+use telling::recorded_count;
 ghost use mathlib.Core.Path.{_≡_};
-ghost use mathlib.Core.Bool.{cond};
 ghost use Prim.Native.Nat.{ℕ, _+_, _*_, _<_, _≤_};
 ghost use lib.ListN.{length};
 ghost use Rattle.definition.specs.Module.{moduleOf};
@@ -27,21 +27,9 @@ ghost use Rattle.course.specs.Course.{Ended};
 ghost use Rattle.proving.specs.Proving.{Asking};
 ghost use Rattle.measuring.specs.Reporting.{Faultless, reportIn};
 ghost use Rattle.measuring.specs.Span.{cut};
-ghost use Rattle.measuring.specs.Guards.{isGuard};
 ghost use Rattle.measuring.specs.Adds.{signatureAt};
-ghost use Rattle.measuring.specs.Told.{Stands, recorded, topIn, falseIn, decidedIn, wayIn};
 ghost use Rattle.measuring.specs.Here.{Finished, Here};
 ghost use Rattle.measuring.specs.Measured.{allFor, allIn};
-
-pub fn is_guard(c: Check) -> bool
-    ensures { λ r. ⌜ r ≡ isGuard c ⌝ }
-{
-    match c {
-        Check::Guard(_) => true,
-        Check::Fine => false,
-        Check::Unproven => false,
-    }
-}
 
 pub fn count_guards(s: &[u8], ws: &[u32], t: Tables, v: Visit, want: Want) -> usize
     requires { ⌜ Asking (now s) (now ws) v want ⌝ }
@@ -58,61 +46,6 @@ pub fn count_guards(s: &[u8], ws: &[u32], t: Tables, v: Visit, want: Want) -> us
         p += 1;
     }
     n
-}
-
-// The length of the record's contents.
-pub fn record_len(ch: Chunk, v: Visit, guards: usize) -> usize
-    requires { ⌜ (v .height ≤ 64) × (ch .locals ≤ 256) × (v .ins .given ≤ 4) × (guards ≤ 64) ⌝ }
-    ensures { λ r. ⌜ r ≡ 12 + 49 * (v .height + ch .locals) + 51 * v .ins .given + 4 * guards ⌝ }
-{
-    let ins = v.ins;
-    12 + 49 * (v.height + ch.locals) + 51 * (ins.given as usize) + 4 * guards
-}
-
-// The top of the stack of a recorded test or inspection.
-fn top_mask(ws: &[u32], row: usize) -> Mask
-    requires { ⌜ Stands (now ws) row ⌝ }
-    ensures { λ r. ⌜ r ≡ topIn (now (ws .entry)) row .mask ⌝ }
-{
-    let height = row_height(ws, row) as usize;
-    if height < 2 {
-        return Mask::NONE;
-    }
-    mask_at(ws, place_at(row, height - 2))
-}
-
-pub fn is_recorded(ws: &[u32], row: usize) -> bool
-    requires { ⌜ row < length (now ws) ⌝ }
-    ensures { λ r. ⌜ r ≡ recorded (now (ws .entry)) row ⌝ }
-{
-    row_height(ws, row) != 0
-}
-
-// An inspection that always says false.
-pub fn false_inspection(ws: &[u32], row: usize, op: u8) -> bool
-    requires { ⌜ Stands (now ws) row ⌝ }
-    ensures { λ r. ⌜ r ≡ falseIn (now (ws .entry)) row op ⌝ }
-{
-    let m = top_mask(ws, row);
-    let inspected = if op == 40 { Mask::ENUM } else { Mask::STRUCT };
-    is_recorded(ws, row) & ((op == 40) | (op == 41)) & !m.has(inspected)
-}
-
-// A test that always goes one way.
-pub fn known_branch(ws: &[u32], row: usize, op: u8) -> bool
-    requires { ⌜ Stands (now ws) row ⌝ }
-    ensures { λ r. ⌜ r ≡ decidedIn (now (ws .entry)) row op ⌝ }
-{
-    let m = top_mask(ws, row);
-    is_recorded(ws, row) & ((op == 21) | (op == 27)) & (m.same(Mask::FALSE) | m.same(Mask::TRUE))
-}
-
-pub fn branch_value(ws: &[u32], row: usize) -> u8
-    requires { ⌜ Stands (now ws) row ⌝ }
-    ensures { λ r. ⌜ r ≡ wayIn (now (ws .entry)) row ⌝ }
-{
-    let m = top_mask(ws, row);
-    if m.same(Mask::TRUE) { 1 } else { 0 }
 }
 
 // The bytes that an instruction adds to the report.
@@ -135,13 +68,6 @@ fn instr_bytes(s: &[u8], ws: &[u32], t: Tables, c: usize, ch: Chunk, i: usize) -
     };
     let branch = if known_branch(ws, row, ins.op) { 8 } else { 0 };
     3 + record_len(ch, v, count_guards(s, ws, t, v, want)) + inspection + branch
-}
-
-// The instructions that may be recorded: none of a chunk that isn't reachable.
-pub fn recorded_count(ch: Chunk) -> usize
-    ensures { λ r. ⌜ r ≡ cond (ch .reachable) (ch .count) 0 ⌝ }
-{
-    if ch.reachable { ch.count } else { 0 }
 }
 
 fn chunk_bytes(s: &[u8], ws: &[u32], t: Tables, c: usize) -> usize

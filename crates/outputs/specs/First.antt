@@ -36,7 +36,8 @@ use Rattle.layout.specs.Read.{locals-is, slots-are, natives-are}
 use Rattle.held.specs.declared.Visit.{Visit as Look}
 use Rattle.held.specs.Held.{Looking, argsIn, factsIn, visitIn}
 use Rattle.held.specs.Visits.{args-are}
-use Rattle.made.specs.Made.{secondBy, restBy, nativeBy, native-by, outputs-by}
+use Rattle.making.specs.Making.{nativeBy, native-by}
+use Rattle.made.specs.Made.{secondBy, restBy, outputs-by}
 use Rattle.made.specs.Made.{first-local as first-named}
 use Rattle.outputs.specs.Ruled.{namesSlots, makes-slots}
 use Rattle.looking.specs.Parts.{float-is, code-is, facts-are, ins-is, rule-is}

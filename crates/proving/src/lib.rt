@@ -2,10 +2,6 @@
 use definition::Ask;
 use definition::Check;
 use definition::Want;
-use description::declared_result;
-use description::site_yielded;
-use extents::BodyExtent;
-use extents::Extent;
 use held::Visit;
 use held::operand_mask;
 use held::slots_of;
@@ -13,15 +9,15 @@ use layout::Chunk;
 use layout::Tables;
 use layout::place_at;
 use looking::common_kinds;
-use looking::constructed_at;
 use masks::Mask;
 use ops::Asks;
-use ops::Makes;
+use peek::mask_at;
+use shapes::declared_result;
+use shapes::site_yielded;
 use slots::write_check;
 use wants::meet;
 use wants::require;
 use wants::want_of;
-use words::mask_at;
 ghost use mathlib.Core.Path.{_≡_};
 ghost use Prim.Native.Nat.{_+_, _<_, _≤_, _^_};
 ghost use lib.ListN.{getD};
@@ -33,11 +29,10 @@ ghost use Rattle.definition.specs.declared.Check.the-variants.{Fine};
 ghost use Rattle.definition.specs.Module.{moduleOf};
 ghost use Rattle.definition.specs.Data.{slotCount, slotsFrom};
 ghost use Rattle.definition.specs.Outputs.{noCell};
-ghost use Rattle.definition.specs.Wants.{require, writeCheck, atIndex, isProven, allProven, isUnknown, unpacked, wantOf, isEntry, unfit};
-ghost use Rattle.definition.specs.Leaves.{always};
+ghost use Rattle.definition.specs.Wants.{require, writeCheck, atIndex, wantOf, isEntry};
 ghost use Rattle.layout.specs.Indexed.{Indexed, tablesOf, chunkAt};
 ghost use Rattle.held.specs.Held.{Looking, Standing, argsIn, factsIn, visitIn};
-ghost use Rattle.proving.specs.Proving.{declaredBy, isNever, placesBy, foundIn, askedIn, Asking};
+ghost use Rattle.proving.specs.Proving.{declaredBy, placesBy, foundIn, Asking};
 
 fn yielded_mask(s: &[u8], v: Visit) -> Mask
     requires { ⌜ v .field < 2 ^ 61 ⌝ }
@@ -179,92 +174,4 @@ pub fn places_asked(v: Visit, want: Want) -> Places
             end: v.height,
         },
     }
-}
-
-fn is_proven(c: Check) -> bool
-    ensures { λ r. ⌜ r ≡ isProven c ⌝ }
-{
-    match c {
-        Check::Unproven => false,
-        Check::Fine => true,
-        Check::Guard(_) => true,
-    }
-}
-
-fn places_proven(s: &[u8], ws: &[u32], t: Tables, v: Visit, want: Want) -> bool
-    requires { ⌜ Asking (now s) (now ws) v want ⌝ }
-    requires { ⌜ t ≡ tablesOf (now s) ⌝ }
-    ensures { λ r. ⌜ r ≡ allProven (askedIn (now (s .entry)) (now (ws .entry)) v want) ⌝ }
-{
-    let places = places_asked(v, want);
-    let mut p = places.from;
-    while p < places.end {
-        if !is_proven(check_place(s, ws, t, v, want, p)) {
-            return false;
-        }
-        p += 1;
-    }
-    true
-}
-
-fn is_never(want: Want) -> bool
-    ensures { λ r. ⌜ r ≡ isNever (want .ask) ⌝ }
-{
-    let ask = want.ask;
-    match ask {
-        Ask::Never => true,
-        _ => false,
-    }
-}
-
-fn unbounded(e: Extent) -> bool
-    ensures { λ r. ⌜ r ≡ isUnknown (e .body) ⌝ }
-{
-    let b = e.body;
-    match b {
-        BodyExtent::Unknown => true,
-        BodyExtent::Absent => false,
-        BodyExtent::Range { min: _, max: _ } => false,
-    }
-}
-
-// A flat construction whose operands do not pack within it.
-fn unpacked(s: &[u8], ws: &[u32], t: Tables, v: Visit) -> bool
-    requires { ⌜ Looking (now s) (now ws) v ⌝ }
-    requires { ⌜ t ≡ tablesOf (now s) ⌝ }
-    ensures { λ r. ⌜ r ≡ unpacked (visitIn (now (s .entry)) (now (ws .entry)) v) (v .rule .makes) ⌝ }
-{
-    let ins = v.ins;
-    let rule = v.rule;
-    let makes = rule.makes;
-    match makes {
-        Makes::Composite => if ins.a == 0 {
-            unbounded(constructed_at(s, ws, t, v))
-        } else {
-            false
-        },
-        _ => false,
-    }
-}
-
-// What validation refuses a visit for: 13, 15, or 0 for nothing.
-pub fn proven(s: &[u8], ws: &[u32], t: Tables, ch: Chunk, v: Visit, entry: bool) -> u8
-    requires { ⌜ Looking (now s) (now ws) v ⌝ }
-    requires { ⌜ t ≡ tablesOf (now s) ⌝ }
-    requires { ⌜ ch ≡ chunkAt (now s) (now ws) (v .chunk) ⌝ }
-    requires { ⌜ entry ≡ isEntry (visitIn (now s) (now ws) v) ⌝ }
-    requires { ⌜ always (visitIn (now s) (now ws) v) (v .height) ≡ 0 ⌝ }
-    ensures { λ r. ⌜ r ≡ unfit (visitIn (now (s .entry)) (now (ws .entry)) v) ⌝ }
-{
-    let want = want_at(s, ws, ch, v, entry);
-    if is_never(want) {
-        return 13;
-    }
-    if !places_proven(s, ws, t, v, want) {
-        return 13;
-    }
-    if unpacked(s, ws, t, v) {
-        return 15;
-    }
-    0
 }

@@ -11,13 +11,11 @@ ghost use mathlib.Core.Path.{_≡_};
 ghost use mathlib.Core.Bool.{false};
 ghost use mathlib.Core.Logic.{_⊎_};
 ghost use Prim.Native.Nat.{_+_, _*_, _<_, _≤_};
-ghost use lib.ListN.{length, getD};
-ghost use Rattle.definition.specs.Module.{row};
-ghost use Rattle.words.specs.Layout.{cellAt};
-ghost use Rattle.words.specs.Rows.{cellsAt, Outside};
+ghost use lib.ListN.{length};
+ghost use Rattle.words.specs.Rows.{cellsAt};
 ghost use Rattle.keep.specs.Arrive.{nowhere, Places, Arrived};
-ghost use Rattle.rows.specs.Leave.{Ready, keptLocals, keptStack, setOnWay, leavesKept, leavesReset, leavesAs, stateIn, metState, metHow, metWord, rowWords};
-ghost use Rattle.rows.specs.Left.{resetAt, howOf, Left};
+ghost use Rattle.rows.specs.Leave.{Ready, keptLocals, keptStack, setOnWay, leavesKept, rowWords};
+ghost use Rattle.rows.specs.Left.{Left};
 
 // The local that a visit sets, NONE where it sets none.
 pub struct SetLocal {
@@ -91,53 +89,6 @@ fn keep_locals(
     keep_around(ws, from, to, n, fresh, set, forget)
 }
 
-fn reset_cell(reply: Cell, streams: bool, k: usize) -> Cell
-    ensures { λ r. ⌜ r ≡ resetAt streams reply k ⌝ }
-{
-    if streams & (k == 0) {
-        return reply;
-    }
-    Cell::unit()
-}
-
-// After `Reset` every local is Unit but the first of a streaming entry, which is the reply.
-fn reset_locals(
-    ws: &mut [u32],
-    to: usize,
-    n: usize,
-    fresh: bool,
-    reply: Cell,
-    streams: bool,
-) -> bool
-    requires { ⌜ to + 16 * n ≤ length (now ws) ⌝ }
-    ensures { λ r. ⌜ Arrived fresh to n (row (resetAt streams reply) 0 n) (now (ws .entry)) (now (ws .exit)) r ⌝ }
-{
-    let mut k = 0;
-    let mut changed = false;
-    while k < n {
-        changed = changed | join_one(ws, to + 16 * k, fresh, reset_cell(reply, streams, k));
-        k += 1;
-    }
-    changed
-}
-
-fn leave_reset(ws: &mut [u32], ch: Chunk, w: Way, fresh: bool, l: Leaving) -> bool
-    requires { ⌜ Ready (now ws) ch w l ⌝ }
-    ensures { λ r. ⌜
-        Left fresh ch (w .to) (l .height)
-        (leavesReset l (ch .streams) (cellAt (now (ws .entry)) 0) (cellsAt (now (ws .entry)) (w .from + 96 + 16 * ch .stack) (ch .locals)))
-        (now (ws .entry)) (now (ws .exit)) r
-        ⌝ }
-{
-    let made = l.made;
-    let stack = w.to + 96;
-    let locals = stack + 16 * ch.stack;
-    let reply = load(ws, 0);
-    let a = put_outputs(ws, stack, l.height, fresh, made);
-    let b = reset_locals(ws, locals, ch.locals, fresh, reply, ch.streams);
-    a | b
-}
-
 // The stack: what is kept, then the outputs.
 fn leave_stack(ws: &mut [u32], w: Way, fresh: bool, l: Leaving) -> bool
     requires { ⌜ Places (now ws) (w .from + 96) (w .to + 96) (w .start) ⌝ }
@@ -171,7 +122,7 @@ fn set_on_way(ws: &[u32], ch: Chunk, w: Way, set: SetLocal) -> SetLocal
     }
 }
 
-fn leave_kept(ws: &mut [u32], ch: Chunk, w: Way, fresh: bool, l: Leaving) -> bool
+pub fn leave_kept(ws: &mut [u32], ch: Chunk, w: Way, fresh: bool, l: Leaving) -> bool
     requires { ⌜ Ready (now ws) ch w l ⌝ }
     requires { ⌜ l .resets ≡ false ⌝ }
     ensures { λ r. ⌜
@@ -188,44 +139,4 @@ fn leave_kept(ws: &mut [u32], ch: Chunk, w: Way, fresh: bool, l: Leaving) -> boo
     let a = leave_stack(ws, w, fresh, l);
     let b = keep_locals(ws, from, to, ch.locals, fresh, set, given.local);
     a | b
-}
-
-fn leave_by(ws: &mut [u32], ch: Chunk, w: Way, fresh: bool, l: Leaving) -> bool
-    requires { ⌜ Ready (now ws) ch w l ⌝ }
-    ensures { λ r. ⌜ Left fresh ch (w .to) (l .height) (leavesAs (now (ws .entry)) ch w l) (now (ws .entry)) (now (ws .exit)) r ⌝ }
-{
-    if l.resets {
-        return leave_reset(ws, ch, w, fresh, l);
-    }
-    leave_kept(ws, ch, w, fresh, l)
-}
-
-fn how(changed: bool) -> Met
-    ensures { λ r. ⌜ r ≡ howOf changed ⌝ }
-{
-    if changed { Met::Changed } else { Met::Same }
-}
-
-// Joins what leaves into the row of the target; a row of another height is left as it is.
-pub fn leave(ws: &mut [u32], ch: Chunk, w: Way, l: Leaving) -> Met
-    requires { ⌜ Ready (now ws) ch w l ⌝ }
-    ensures { λ r. ⌜
-        (stateIn (now (ws .exit)) (w .to) (ch .stack) (ch .locals)
-        ≡ metState (stateIn (now (ws .entry)) (w .to) (ch .stack) (ch .locals)) (leavesAs (now (ws .entry)) ch w l))
-        × (r ≡ metHow (stateIn (now (ws .entry)) (w .to) (ch .stack) (ch .locals)) (leavesAs (now (ws .entry)) ch w l))
-        × Outside (w .to) (w .to + rowWords ch) (now (ws .entry)) (now (ws .exit))
-        × (getD (now (ws .exit)) (w .to + 1) 0 ≡ getD (now (ws .entry)) (w .to + 1) 0)
-        × (getD (now (ws .exit)) (w .to) 0 ≡ metWord (getD (now (ws .entry)) (w .to) 0) (l .height))
-        ⌝ }
-{
-    let to = w.to;
-    let height = l.height + 1;
-    let state = ws[to] as usize;
-    if (state != 0) & (state != height) {
-        return Met::Unequal;
-    }
-    let fresh = state == 0;
-    let changed = leave_by(ws, ch, w, fresh, l);
-    ws[to] = height as u32;
-    how(changed | fresh)
 }

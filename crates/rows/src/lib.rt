@@ -5,4 +5,4 @@ pub use joining::Leaving;
 pub use joining::Met;
 pub use joining::SetLocal;
 pub use joining::Way;
-pub use joining::leave;
+pub use joining::leave_kept;

@@ -24,7 +24,7 @@ use Rattle.entering.specs.declared.Settled.the-variants.{Due, Done, Stop}
 use Rattle.entering.specs.Entering.{whereIn, Goes, Opened}
 use Rattle.entering.specs.Reach.{Reached, past-more}
 use Rattle.entering.specs.Began.{Began}
-use Rattle.entering.specs.Fault.{Inspected}
+use Rattle.inspecting.specs.Fault.{Inspected}
 use Rattle.entering.specs.Rounds.{enters-due, enters-end, low-reached}
 use Rattle.settling.specs.Settling.{Onward}
 

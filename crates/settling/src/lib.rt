@@ -2,11 +2,11 @@
 use course::Run;
 use entering::Settled;
 use entering::begin;
-use entering::inspected;
 use entering::next_reachable;
 use entering::open_round;
-use gives::merge_writes;
+use inspecting::inspected;
 use layout::Tables;
+use merging::merge_writes;
 ghost use mathlib.Core.Path.{_≡_};
 ghost use Rattle.layout.specs.Indexed.{tablesOf};
 ghost use Rattle.course.specs.Course.{Between, Ended};

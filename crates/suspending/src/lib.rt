@@ -1,7 +1,7 @@
 // Which chunks suspend: those with a site, which the index has, and those that call one that does.
 use description::Instr;
+use fetching::instr_of;
 use index::chunk_at;
-use index::instr_of;
 use layout::Chunk;
 use layout::Tables;
 ghost use mathlib.Core.Path.{_≡_};

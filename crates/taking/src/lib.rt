@@ -1,5 +1,6 @@
 // One taking of an entry from the queue: the visit of its instruction.
 use answers::Refusal;
+use assigning::set_local;
 use course::Run;
 use course::refuse;
 use gives::give;
@@ -11,16 +12,15 @@ use layout::Tables;
 use layout::row_at;
 use looking::visit_at;
 use ops::Acts;
-use outputs::always_fault;
 use outputs::made_at;
-use outputs::set_local;
 use passing::Went;
 use passing::go_all;
-use proving::proven;
+use refusing::always_fault;
 use ring::Queue;
 use ring::peek;
 use ring::popped;
 use rows::Leaving;
+use validating::proven;
 ghost use mathlib.Core.Path.{_≡_};
 ghost use mathlib.Core.Bool.{cond};
 ghost use Prim.Native.Nat.{_+_, _<_, _≤_, _^_};

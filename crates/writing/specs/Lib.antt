@@ -1,5 +1,2 @@
-pub mod Writes
-pub mod Guards
-pub mod Values
 pub mod Tagged
 pub mod Whole

@@ -14,7 +14,8 @@ use Rattle.layout.specs.Layout.{rowAt}
 use Rattle.held.specs.Held.{factsIn}
 use Rattle.course.specs.Course.{knownAs}
 use Rattle.measuring.specs.Adds.{recordAt, inspectionAt, branchAt, addedFor}
-use Rattle.measuring.specs.Told.{recorded, falseIn, decidedIn, wayIn, inspection-told, branch-told}
+use Rattle.telling.specs.Told.{recorded, falseIn, decidedIn, wayIn}
+use Rattle.measuring.specs.Beside.{inspection-told, branch-told}
 use Rattle.measuring.specs.Measured.{added-none}
 
 module _ (s ws : List ℕ) (c i : ℕ) (number : chunkNo (moduleOf s) c .number ≡ c) (row : ℕ) (e : row ≡ rowAt (moduleOf s) c i) (op : ℕ)

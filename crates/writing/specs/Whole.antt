@@ -16,7 +16,7 @@ use Rattle.measuring.specs.Reporting.{reportIn}
 use Rattle.measuring.specs.Span.{span, span-same}
 use Rattle.measuring.specs.Adds.{bareAt, signatureAt, privateAt, chunksFor, report-added}
 use Rattle.measuring.specs.Here.{signatures-are}
-use Rattle.writing.specs.Writes.{slotFrom}
+use Rattle.recording.specs.Writes.{slotFrom}
 
 module _ (s ws : List ℕ) (t : Tables) (e : t ≡ tablesOf s) where
   slots-same : span (privateAt s ws) 0 (moduleOf s .slots) ≡ span (slotFrom ws (t .chunks)) 0 (t .slots)

@@ -7,7 +7,7 @@ use Rattle.held.proofs.operand_mask.Tie as tie
 use Rattle.held.proofs.operand_mask.Reads as reads
 use Rattle.held.proofs.operand_mask.Lts as lts
 use Rattle.layout.proofs.place_at.Reads as place-at-reads
-use Rattle.words.proofs.mask_at.Reads as mask-at-reads
+use Rattle.peek.proofs.mask_at.Reads as mask-at-reads
 
 -- src/lib.rt:90:8
 add-if1 : tie.Need-add-if1

@@ -12,7 +12,8 @@ use Rattle.proving.specs.Proving.{placesBy, askedFrom, askedIn}
 use Rattle.proving.specs.Fine.{below-some}
 use Rattle.proving.specs.Checked.{guards-are}
 use Rattle.held.specs.Visits.{looking-standing}
-use Rattle.measuring.specs.Guards.{isGuard, few-guards, guards-turn, guards-end}
+use Rattle.telling.specs.Guard.{isGuard}
+use Rattle.measuring.specs.Guards.{few-guards, guards-turn, guards-end}
 use Rattle.measuring.proofs.count_guards.Statement.{statement}
 use Rattle.measuring.proofs.count_guards.Tie as tie
 

@@ -5,7 +5,7 @@ use Rattle.taking.proofs.fault.Statement.{statement}
 use Rattle.taking.proofs.fault.Tie as tie
 use Rattle.taking.proofs.fault.Reads as reads
 use Rattle.taking.proofs.fault.Lts as lts
-use Rattle.outputs.proofs.always_fault.Reads as always-fault-reads
+use Rattle.refusing.proofs.always_fault.Reads as always-fault-reads
 use Rattle.taking.proofs.height_after.Reads as height-after-reads
 use Rattle.taking.proofs.unproven.Reads as unproven-reads
 

@@ -6,7 +6,7 @@ use Rattle.taking.proofs.leaving.Tie as tie
 use Rattle.taking.proofs.leaving.Reads as reads
 use Rattle.taking.proofs.leaving.Lts as lts
 use Rattle.outputs.proofs.made_at.Reads as made-at-reads
-use Rattle.outputs.proofs.set_local.Reads as set-local-reads
+use Rattle.assigning.proofs.set_local.Reads as set-local-reads
 use Rattle.taking.proofs.height_after.Reads as height-after-reads
 use Rattle.taking.proofs.resets.Reads as resets-reads
 

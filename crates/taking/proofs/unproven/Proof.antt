@@ -8,7 +8,7 @@ use Rattle.taking.proofs.unproven.Statement.{statement}
 use Rattle.taking.proofs.unproven.Tie as tie
 use Rattle.taking.proofs.unproven.Reads as reads
 use Rattle.taking.proofs.unproven.Lts as lts
-use Rattle.proving.proofs.proven.Reads as proven-reads
+use Rattle.validating.proofs.proven.Reads as proven-reads
 
 -- src/lib.rt:80:9
 proven-requires : tie.Need-proven-requires

@@ -10,8 +10,8 @@ use Rattle.le.specs.Laws.{same-length as same-long}
 use Rattle.measuring.specs.Span.{span}
 use Rattle.measuring.specs.Adds.{addedFor, recordable, chunkFor}
 use Rattle.measuring.specs.Here.{count-recordable, counted-here}
-use Rattle.writing.specs.Writes.{said-exact, span-start, span-fits, span-turn}
-use Rattle.writing.specs.Values.{here-back}
+use Rattle.recording.specs.Writes.{said-exact, span-start, span-fits, span-turn}
+use Rattle.recording.specs.Values.{here-back}
 use Rattle.writing.proofs.put_chunk.Statement.{statement}
 use Rattle.writing.proofs.put_chunk.Tie as tie
 

@@ -10,7 +10,7 @@ use Rattle.definition.specs.Module.{moduleOf}
 use Rattle.layout.specs.Read.{chunks-are}
 use Rattle.measuring.specs.Span.{span}
 use Rattle.measuring.specs.Adds.{chunkFor, chunksFor}
-use Rattle.writing.specs.Writes.{said-exact, span-start, span-fits, span-turn}
+use Rattle.recording.specs.Writes.{said-exact, span-start, span-fits, span-turn}
 use Rattle.writing.proofs.put_chunks.Statement.{statement}
 use Rattle.writing.proofs.put_chunks.Tie as tie
 

@@ -8,8 +8,8 @@ use Rattle.layout.specs.Layout.{inputAt}
 use Rattle.layout.specs.Read.{params-is}
 use Rattle.definition.specs.Module.{moduleOf}
 use Rattle.measuring.specs.Long.{signature-long}
-use Rattle.writing.specs.Writes.{exact, low16}
-use Rattle.writing.specs.Values.{input-room, signature-parts}
+use Rattle.recording.specs.Writes.{exact, low16}
+use Rattle.recording.specs.Values.{input-room, signature-parts}
 use borrow.Author.Needs.{needs}
 use Rattle.writing.proofs.put_signature.Statement.{statement}
 use Rattle.writing.proofs.put_signature.Tie as tie

@@ -9,7 +9,7 @@ use Rattle.le.specs.Laws.{same-length as same-long}
 use Rattle.measuring.specs.Span.{span}
 use Rattle.measuring.specs.Adds.{signatureAt}
 use Rattle.measuring.specs.Here.{signatures-are}
-use Rattle.writing.specs.Writes.{said-exact, span-start, span-fits, span-turn}
+use Rattle.recording.specs.Writes.{said-exact, span-start, span-fits, span-turn}
 use Rattle.writing.proofs.put_signatures.Statement.{statement}
 use Rattle.writing.proofs.put_signatures.Tie as tie
 

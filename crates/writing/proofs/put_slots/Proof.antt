@@ -7,7 +7,7 @@ use lib.ListN.{length}
 use Rattle.le.specs.Wrote.{Wrote}
 use Rattle.le.specs.Laws.{same-length as same-long}
 use Rattle.measuring.specs.Span.{span}
-use Rattle.writing.specs.Writes.{slotFrom, exact, span-start, span-fits, span-turn, slot-long, said-exact}
+use Rattle.recording.specs.Writes.{slotFrom, exact, span-start, span-fits, span-turn, slot-long, said-exact}
 use Rattle.writing.proofs.put_slots.Statement.{statement}
 use Rattle.writing.proofs.put_slots.Tie as tie
 

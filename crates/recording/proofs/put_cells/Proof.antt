@@ -1,0 +1,78 @@
+-- `recording::put_cells` meets its contract. Invariant: k cells are written.
+use Prim.Native.Nat.{_*_, _-_, _≤_}
+use denote.Ref.{now}
+use native.Mathlib.Omega.{arith}
+use mathlib.Core.Path.{_≡_, ap}
+use Rattle.le.specs.Wrote.{Wrote}
+use Rattle.le.specs.Laws.{and-then, resize, same-length as same-long}
+use Rattle.putting.specs.Laws.{said}
+use Rattle.words.specs.Rows.{cellsAt}
+use Rattle.definition.specs.Report.{cellBytes, cellsBytes}
+use Rattle.recording.specs.Writes.{wrote-none, cells-none, cells-more}
+use Rattle.recording.proofs.put_cells.Statement.{statement}
+use Rattle.recording.proofs.put_cells.Tie as tie
+
+abbrev Inv-loop : tie.InvT-loop
+Inv-loop ws buf₀ at word n k₀ to₀ buf k to = (k ≤ n) × Wrote buf₀ at (49 * k) (cellsBytes (cellsAt ws word k)) buf to
+
+abbrev μ-loop : tie.MeasureT-loop
+μ-loop ws buf₀ at word n k₀ to₀ buf k to = n - k
+
+loop-holds : tie.Need-loop-holds Inv-loop μ-loop
+loop-holds c =
+    let a = c .before .before .args in
+    (omega arith, said (wrote-none _ (a .at)) (cells-none (now (a .ws)) (a .word)))
+
+mul-load : tie.Need-mul-load Inv-loop μ-loop
+mul-load c = omega (arith, c .before .before .before .before .before .pre .0, c .before .loop-test .taken)
+
+add-load : tie.Need-add-load Inv-loop μ-loop
+add-load c = omega (arith, c .before .before .before .before .before .pre .0, c .before .loop-test .taken)
+
+load-requires : tie.Need-load-requires Inv-loop μ-loop
+load-requires c κs = omega (arith, c .before .before .before .before .before .pre .0, c .before .loop-test .taken)
+
+put-cell-requires : tie.Need-put-cell-requires Inv-loop μ-loop
+put-cell-requires c κs = let i = c .before .before .before .loop .inv in omega (arith, c .before .before .before .before .before .before .pre .1, c .before .before .loop-test .taken, i .1 .next, same-long (i .1))
+
+add-k : tie.Need-add-k Inv-loop μ-loop
+add-k c = omega arith
+
+loop-less : tie.Need-loop-less Inv-loop μ-loop
+loop-less c = omega arith
+
+loop-again : tie.Need-loop-again Inv-loop μ-loop
+loop-again c =
+    let a = c .before .before .before .before .before .before .before .before .before .args in
+    let i = c .before .before .before .before .before .before .loop .inv in
+    let k = c .before .before .before .before .before .before .loop .k in (
+      omega (arith, c .before .before .before .before .before .loop-test .taken),
+      resize (said (and-then (i .1) (said (c .before .before .put-cell .ensures) (ap cellBytes (c .before .before .before .load .ensures)))) (cells-more (now (a .ws)) (a .word) k)) (omega arith),
+    )
+
+same-length : tie.Need-same-length Inv-loop μ-loop
+same-length c = same-long (c .before .loop .inv .1)
+
+returns : tie.Need-returns Inv-loop μ-loop
+returns c =
+    let a = c .before .before .before .before .args in
+    let i = c .before .loop .inv in
+    let e : c .before .loop .k ≡ a .n = omega (arith, i .0, c .loop-test .left) in
+    rw e at (i .1)
+
+pub put-cells-spec : {M : Type 1} → statement M
+put-cells-spec =
+    tie.close
+    (tie.spec
+    Inv-loop
+    μ-loop
+    loop-holds
+    mul-load
+    add-load
+    load-requires
+    put-cell-requires
+    add-k
+    loop-less
+    loop-again
+    same-length
+    returns)

@@ -1,0 +1,22 @@
+-- `shapes::declared_result` meets its contract.
+use Rattle.description.specs.Fields.{resultOf}
+use native.Mathlib.Omega.{arith}
+use Rattle.shapes.proofs.declared_result.Statement.{statement}
+use Rattle.shapes.proofs.declared_result.Tie as tie
+
+params-of-requires : tie.Need-params-of-requires
+params-of-requires c κs = omega arith
+
+cast-param-at : tie.Need-cast-param-at
+cast-param-at c = omega arith
+
+param-at-requires : tie.Need-param-at-requires
+param-at-requires c κs = omega arith
+
+returns : tie.Need-returns
+unfolding resultOf
+returns c = cc
+
+pub declared-result-spec : {M : Type 1} → statement M
+declared-result-spec =
+    tie.close (tie.spec params-of-requires cast-param-at param-at-requires returns)
