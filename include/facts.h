@@ -55,7 +55,9 @@ enum {
     FACTS_CHUNK,       /* the chunk that the refusal names, or FACTS_NOWHERE */
     FACTS_INSTRUCTION, /* the instruction that it names, or FACTS_NOWHERE */
     FACTS_STEPS,       /* the steps taken */
-    FACTS_LENGTH,      /* the report's length in bytes; 0 in a refusal */
+    FACTS_LENGTH,      /* the report's length in bytes, its low 32 bits: a report
+                          of 4 GiB needs a description over 1,048,576 bytes;
+                          0 in a refusal */
     FACTS_ANSWER       /* how many numbers an answer has */
 };
 
@@ -74,7 +76,7 @@ enum {
 uint32_t facts_check(const uint8_t *description, size_t description_bytes,
                      uint32_t *workspace, size_t workspace_words,
                      uint8_t *report, size_t report_bytes,
-                     uint32_t limit, uint64_t answer[FACTS_ANSWER]);
+                     uint32_t limit, uint32_t answer[FACTS_ANSWER]);
 
 /* The least workspace for a description, in words. Returns 0 where it has
  * good form; else 1 to 4, and words[0] is 0.

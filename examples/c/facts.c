@@ -71,14 +71,15 @@ static void print_record(const uint8_t *report, size_t length, uint16_t chunk, u
         printf("record of %u %u: none\n", chunk, instruction);
 }
 
-static void print_refusal(const uint64_t *answer) {
+static void print_refusal(const uint32_t *answer) {
     printf("refused %u, chunk %u, instruction %u, %u steps\n", (unsigned)answer[FACTS_NUMBER],
            (unsigned)answer[FACTS_CHUNK], (unsigned)answer[FACTS_INSTRUCTION], (unsigned)answer[FACTS_STEPS]);
 }
 
 int main(int count, char **args) {
     size_t length;
-    uint64_t least[1], answer[FACTS_ANSWER];
+    uint64_t least[1];
+    uint32_t answer[FACTS_ANSWER];
     if (count != 2) {
         fputs("facts FILE\n", stderr);
         return 2;
@@ -106,7 +107,7 @@ int main(int count, char **args) {
     print_record(report, answer[FACTS_LENGTH], 0, 9);
 
     /* One step too few is refused. */
-    uint32_t few = (uint32_t)answer[FACTS_STEPS] - 1;
+    uint32_t few = answer[FACTS_STEPS] - 1;
     facts_check(description, length, workspace, words, report, REPORT, few, answer);
     print_refusal(answer);
     free(workspace);

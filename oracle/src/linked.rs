@@ -11,10 +11,10 @@ pub enum Answer {
 
 pub fn check(description: &[u8], workspace: &mut [u32], report: &mut [u8], limit: u32) -> Answer {
     let (number, answer) = genduvo::numbers(description, workspace, report, limit);
-    assert_eq!(u64::from(number), answer[0], "what facts_check returns");
+    assert_eq!(number, answer[0], "what facts_check returns");
     match genduvo::outcome(answer) {
         Ok(accepted) => {
-            assert_eq!(answer[1..3], [u64::from(NOWHERE); 2], "the place of an accepted call");
+            assert_eq!(answer[1..3], [u32::from(NOWHERE); 2], "the place of an accepted call");
             Answer::Accepted { length: accepted.length, steps: accepted.steps }
         }
         Err(refusal) => {

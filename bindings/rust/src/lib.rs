@@ -17,7 +17,7 @@ pub mod raw {
             report: *mut u8,
             report_bytes: usize,
             limit: u32,
-            answer: *mut [u64; 5],
+            answer: *mut [u32; 5],
         ) -> u32;
         pub fn facts_words(description: *const u8, description_bytes: usize, words: *mut [u64; 1]) -> u32;
         pub fn facts_lookup(
@@ -144,7 +144,7 @@ pub type Outcome = Result<Accepted, Refusal>;
 
 /// The call's numbers as they are: what it returns, and number, chunk,
 /// instruction, steps and length. Workspace and report are as for `check`.
-pub fn numbers(description: &[u8], workspace: &mut [u32], report: &mut [u8], limit: u32) -> (u32, [u64; 5]) {
+pub fn numbers(description: &[u8], workspace: &mut [u32], report: &mut [u8], limit: u32) -> (u32, [u32; 5]) {
     let mut answer = [0; 5];
     // SAFETY: the slices are valid for the whole call, and what is written is borrowed for it alone.
     let number = unsafe {
@@ -163,16 +163,16 @@ pub fn numbers(description: &[u8], workspace: &mut [u32], report: &mut [u8], lim
 }
 
 /// What an answer's numbers say.
-pub fn outcome(answer: [u64; 5]) -> Outcome {
+pub fn outcome(answer: [u32; 5]) -> Outcome {
     let [number, chunk, instruction, steps, length] = answer;
     if number == 0 {
-        return Ok(Accepted { length: length as usize, steps: steps as u32 });
+        return Ok(Accepted { length: length as usize, steps });
     }
     Err(Refusal {
         reason: Reason(number as u8),
         chunk: chunk as u16,
         instruction: instruction as u16,
-        steps: steps as u32,
+        steps,
     })
 }
 

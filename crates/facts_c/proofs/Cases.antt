@@ -32,7 +32,8 @@ pub in-refused : (a : Answer) (r : Refusal) → a ≡ Turned r → r .number ∷
 unfolding numbers inWords
 in-refused a r e = rw e
 
-first-word : (a : Answer) → getD (inWords (numbers a)) 0 0 ≡ getD (numbers a) 0 0
+-- the first is as it was
+pub first-word : (a : Answer) → getD (inWords (numbers a)) 0 0 ≡ getD (numbers a) 0 0
 unfolding numbers inWords
 first-word (Accepted long steps) = refl
 first-word (Turned r) = refl

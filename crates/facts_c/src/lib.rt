@@ -16,8 +16,20 @@ fn in_words(answer: Answer) -> [u32; 5]
     ensures { λ r. ⌜ r ≡ inWords (numbers answer) ⌝ }
 {
     match answer {
-        Answer::Accepted { length, steps } => [0, 65535, 65535, steps, (length % 4294967296) as u32],
-        Answer::Refused(r) => [r.number as u32, r.chunk as u32, r.instruction as u32, r.steps, 0],
+        Answer::Accepted { length, steps } => [
+            0,
+            65535,
+            65535,
+            steps,
+            (length % 4294967296) as u32,
+        ],
+        Answer::Refused(r) => [
+            r.number as u32,
+            r.chunk as u32,
+            r.instruction as u32,
+            r.steps,
+            0,
+        ],
     }
 }
 
