@@ -1,1 +1,5 @@
 pub mod Checked
+<<<<<<< HEAD
+=======
+pub mod Told
+>>>>>>> main

@@ -7,8 +7,7 @@ use native.Mathlib.Omega.{arith}
 use borrow.Author.Tests.{eq-eqb, ne-eqb}
 use lib.Dec.{eqb}
 use lib.Pow.{pow-lt}
-use lib.ListN.{length, getD, set, length-set}
-use lib.Seq.{getD-set-same, getD-set-other}
+use lib.ListN.{length, getD}
 use Rattle.description.specs.declared.Header.{Header}
 use Rattle.description.specs.Fields.{tagAt, nextAt, headerOf, fieldsFrom}
 use Rattle.description.specs.Walk.{next-after, fields-turn, fields-end}
@@ -16,7 +15,6 @@ use Rattle.definition.specs.Module.{codeAfter, chunksFrom}
 use Rattle.goodform.specs.Good.{Good}
 use Rattle.layout.specs.declared.Tables.{Tables}
 use Rattle.layout.specs.Indexed.{tablesOf, Indexed, Fresh}
-use Rattle.layout.specs.Apart.{by-order}
 use Rattle.filled.specs.declared.Work.{Work}
 use Rattle.filled.specs.Model.{areas, oneMore, firstTables, firstWork, codeWords, codeWork, slotWords, tablesAfter, wordsAfter, wordsFrom, tablesFrom}
 use Rattle.filled.specs.Room.{Room, areasIn, area-of, room-after}
@@ -150,22 +148,6 @@ going-done s begin q ws t w at g h good l z =
     (y ∙ tables-hold s begin q good l z, rw x (index-holds s begin q good l z), rw x (all-fresh s begin q good l z), g .long)
 
 -- ---- the words cleared first
-pub record Cleared (begin : List ℕ) (n : ℕ) (ws : List ℕ) (i : ℕ) : Type 0 where
-  pub below : i ≤ n
-  pub long : length ws ≡ length begin
-  pub zeros : (k : ℕ) → k < i → getD ws k 0 ≡ 0
-
-pub cleared-next : (begin : List ℕ) (n : ℕ) (ws : List ℕ) (i : ℕ) → Cleared begin n ws i → i < n → n ≤ length begin → Cleared begin n (set ws i 0) (i + 1)
-cleared-next begin n ws i c l h =
-    record {
-      below = omega arith;
-      long = length-set ws i 0 ∙ c .long;
-      zeros = λ k o. by-order k i
-          (λ q. getD-set-other ws i k 0 0 (λ e. omega arith) ∙ c .zeros k q)
-          (λ e. rw e (getD-set-same ws i 0 0 (omega (arith, c .long))))
-          (λ q. absurd (omega arith));
-    }
-
 -- the slots end before the first chunk's inputs
 pub front-fits : (s : List ℕ) (q : ℕ) (h : Header) → Good s q → h ≡ headerOf s 0 → 64 + 16 * (h .chunks + h .slots) ≤ q
 unfolding firstTables firstWork

@@ -1,4 +1,5 @@
 // The index of a description of good form, filled in one walk over its fields.
+use clearing::clear;
 use description::next_at;
 use description::params_of;
 use description::tag_at;
@@ -284,18 +285,6 @@ fn walk(s: &[u8], ws: &mut [u32], queue: usize) -> Tables
         at = next_at(s, at);
     }
     t
-}
-
-// The first n words are 0.
-fn clear(ws: &mut [u32], n: usize)
-    requires { ⌜ n ≤ length (now ws) ⌝ }
-    ensures { λ r. ⌜ ((k : ℕ) → k < n → getD (now (ws .exit)) k 0 ≡ 0) ⌝ }
-{
-    let mut i = 0;
-    while i < n {
-        ws[i] = 0;
-        i += 1;
-    }
 }
 
 // The index of a description of good form, in words that hold anything.

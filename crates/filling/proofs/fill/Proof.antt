@@ -6,7 +6,8 @@ use Rattle.filling.proofs.fill.Statement.{statement}
 use Rattle.filling.proofs.fill.Tie as tie
 use Rattle.filling.proofs.fill.Reads as reads
 use Rattle.filling.proofs.fill.Lts as lts
-use Rattle.filling.proofs.clear.Reads as clear-reads
+use Rattle.clearing.specs.Clearing.{cleared-zero}
+use Rattle.clearing.proofs.clear.Reads as clear-reads
 use Rattle.filling.proofs.walk.Reads as walk-reads
 use Rattle.heads.proofs.header_at.Reads as header-at-reads
 
@@ -41,7 +42,7 @@ clear-requires c κs = omega (arith, front-fits _ _ _ (c .before .before .before
 -- src/lib.rt:315:5
 walk-requires : tie.Need-walk-requires
 walk-requires c κs =
-    (c .before .before .before .before .before .before .before .before .before .before .pre .0, (omega (arith, c .before .before .before .before .before .before .before .before .before .before .pre .1, c .before .before .before .clear .kept), λ k l. c .before .before .before .clear .ensures k (rw (c .before .before .before .before .before .before .before .header-at .ensures) l)))
+    (c .before .before .before .before .before .before .before .before .before .before .pre .0, (omega (arith, c .before .before .before .before .before .before .before .before .before .before .pre .1, c .before .before .before .clear .kept), λ k l. rw (c .before .before .before .clear .ensures) (cleared-zero _ _ k (rw (c .before .before .before .before .before .before .before .header-at .ensures) l))))
 
 -- src/lib.rt:302:1
 same-length : tie.Need-same-length

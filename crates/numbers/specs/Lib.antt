@@ -1,0 +1,6 @@
+pub mod Only
+pub mod Forms
+pub mod Runs
+pub mod Rules
+pub mod Left
+pub mod Calls
