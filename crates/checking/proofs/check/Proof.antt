@@ -2,14 +2,14 @@ use native.Mathlib.Omega.{arith}
 use mathlib.Core.Path.{_≡_}
 use Rattle.definition.specs.declared.Form.the-variants.{Fine}
 use Rattle.definition.specs.declared.Form.the-variants.{Refused as Malformed}
-use Rattle.facts.proofs.Laws.{good-room, checked-refused, checked-ran}
+use Rattle.checking.proofs.Laws.{good-room, checked-refused, checked-ran}
 use borrow.Author.Needs.{needs}
-use Rattle.facts.proofs.check.Statement.{statement}
-use Rattle.facts.proofs.check.Tie as tie
-use Rattle.facts.proofs.check.Reads as reads
-use Rattle.facts.proofs.check.Lts as lts
+use Rattle.checking.proofs.check.Statement.{statement}
+use Rattle.checking.proofs.check.Tie as tie
+use Rattle.checking.proofs.check.Reads as reads
+use Rattle.checking.proofs.check.Lts as lts
 use Rattle.clearing.proofs.clear.Reads as clear-reads
-use Rattle.facts.proofs.analyze.Reads as analyze-reads
+use Rattle.analyzing.proofs.analyze.Reads as analyze-reads
 use Rattle.filling.proofs.fill.Reads as fill-reads
 use Rattle.room.proofs.check_room.Reads as check-room-reads
 

@@ -2,13 +2,13 @@ use mathlib.Core.Path.{_≡_, refl}
 use Rattle.starting.specs.declared.Started.the-variants.{Ready}
 use Rattle.starting.specs.declared.Started.the-variants.{Refused as NotStarted}
 use Rattle.running.specs.declared.Ran.the-variants.{Done, Stop}
-use Rattle.facts.proofs.Laws.{run-ready, ended-here, faultless-here, told-early, told-stopped, told-done}
+use Rattle.analyzing.proofs.Laws.{run-ready, ended-here, faultless-here, told-early, told-stopped, told-done}
 use borrow.Author.Needs.{needs}
-use Rattle.facts.proofs.analyze.Statement.{statement}
-use Rattle.facts.proofs.analyze.Tie as tie
-use Rattle.facts.proofs.analyze.Reads as reads
-use Rattle.facts.proofs.analyze.Lts as lts
-use Rattle.facts.proofs.deliver.Reads as deliver-reads
+use Rattle.analyzing.proofs.analyze.Statement.{statement}
+use Rattle.analyzing.proofs.analyze.Tie as tie
+use Rattle.analyzing.proofs.analyze.Reads as reads
+use Rattle.analyzing.proofs.analyze.Lts as lts
+use Rattle.analyzing.proofs.deliver.Reads as deliver-reads
 use Rattle.running.proofs.run.Reads as run-reads
 use Rattle.starting.proofs.start.Reads as start-reads
 

@@ -1,10 +1,10 @@
 use native.Mathlib.Omega.{arith}
-use Rattle.facts.proofs.Laws.{told-long, told-written}
+use Rattle.analyzing.proofs.Laws.{told-long, told-written}
 use borrow.Author.Needs.{needs}
-use Rattle.facts.proofs.deliver.Statement.{statement}
-use Rattle.facts.proofs.deliver.Tie as tie
-use Rattle.facts.proofs.deliver.Reads as reads
-use Rattle.facts.proofs.deliver.Lts as lts
+use Rattle.analyzing.proofs.deliver.Statement.{statement}
+use Rattle.analyzing.proofs.deliver.Tie as tie
+use Rattle.analyzing.proofs.deliver.Reads as reads
+use Rattle.analyzing.proofs.deliver.Lts as lts
 use Rattle.answers.proofs.nowhere.Reads as nowhere-reads
 use Rattle.measuring.proofs.measure.Reads as measure-reads
 use Rattle.writing.proofs.write.Reads as write-reads

@@ -1,5 +1,0 @@
-pub mod Checked
-<<<<<<< HEAD
-=======
-pub mod Told
->>>>>>> main
