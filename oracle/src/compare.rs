@@ -1,6 +1,14 @@
 //! Generated descriptions, given to the oracle and to the port.
-//! `compare COUNT [SEED]`
+//! `compare COUNT [SEED [FROM]]`: COUNT of a seed's descriptions, from the
+//! FROMth on. The variable THREADS says how many work at it.
+//! With `cfg(linked)` the port is the static library; with `cfg(valgrind)` each
+//! buffer is an allocation of its own.
+#![allow(unexpected_cfgs)]
 
+#[cfg(linked)]
+#[path = "linked.rs"]
+mod port;
+#[cfg(not(linked))]
 mod port;
 mod shrink;
 mod trial;
@@ -14,17 +22,19 @@ use oracle::text;
 use std::process::exit;
 use std::sync::Mutex;
 use std::sync::atomic::{AtomicU64, Ordering};
-use trial::{Bounds, Buffers, differs, lookup_differs, odd_report, shown};
+use trial::{Bounds, Buffers, differs, lookup_differs, odd_report, shown, words_differ};
 
+#[cfg(not(valgrind))]
 #[global_allocator]
 static POOL: oracle::pool::Pool = oracle::pool::Pool;
 
+/// How many threads, where THREADS does not say.
 const THREADS: usize = 2;
 /// The run ends after so many differences.
 const MOST: u64 = 10;
 
 struct Shared {
-    count: u64,
+    end: u64,
     run: u64,
     next: AtomicU64,
     compared: AtomicU64,
@@ -45,21 +55,23 @@ impl Shared {
 
 fn main() {
     let args: Vec<u64> = std::env::args().skip(1).map_while(|text| text.parse().ok()).collect();
-    if args.is_empty() || args.len() > 2 || args.len() != std::env::args().len() - 1 {
-        eprintln!("compare COUNT [SEED]");
+    if args.is_empty() || args.len() > 3 || args.len() != std::env::args().len() - 1 {
+        eprintln!("compare COUNT [SEED [FROM]]");
         exit(2);
     }
     trial::keep_panics();
+    let from = args.get(2).copied().unwrap_or(0);
+    let threads = std::env::var("THREADS").ok().and_then(|text| text.parse().ok()).unwrap_or(THREADS);
     let shared = Shared {
-        count: args[0],
+        end: from + args[0],
         run: args.get(1).copied().unwrap_or(1),
-        next: AtomicU64::new(0),
+        next: AtomicU64::new(from),
         compared: AtomicU64::new(0),
         differences: AtomicU64::new(0),
         output: Mutex::new(()),
     };
     let coverage = std::thread::scope(|scope| {
-        let threads: Vec<_> = (0..THREADS).map(|_| scope.spawn(|| work(&shared))).collect();
+        let threads: Vec<_> = (0..threads).map(|_| scope.spawn(|| work(&shared))).collect();
         let mut all = Coverage::default();
         for thread in threads {
             match thread.join() {
@@ -83,21 +95,22 @@ fn work(shared: &Shared) -> Coverage {
     let mut buffers = Buffers::default();
     while shared.differences.load(Ordering::Relaxed) < MOST {
         let number = shared.next.fetch_add(1, Ordering::Relaxed);
-        if number >= shared.count {
+        if number >= shared.end {
             break;
         }
         let seed = seed_of(shared.run, number);
         let made = std::panic::catch_unwind(|| {
             let (one, measured) = with_measure(seed);
             let expected = outcome(&one, &measured);
-            (one, expected)
+            (one, expected, measured.least_words)
         });
-        let Ok((one, expected)) = made else {
+        let Ok((one, expected, least)) = made else {
             shared.difference(|| println!("---- seed {seed}: the oracle itself stopped"));
             continue;
         };
         coverage.add(&one.bytes, &expected);
-        let found = compare(seed, &one, &expected, &mut buffers);
+        let found = compare(seed, &one, &expected, &mut buffers)
+            .or_else(|| words_differ(&one.bytes, least.map(|words| words + 1).ok_or(expected.number())));
         shared.compared.fetch_add(1, Ordering::Relaxed);
         if let Some(answer) = found {
             shared.difference(|| show(seed, &one, &expected, &answer, &mut buffers));

@@ -21,3 +21,9 @@ pub fn check(description: &[u8], workspace: &mut [u32], report: &mut [u8], limit
 pub fn lookup(report: &[u8], chunk: u16, instruction: u16) -> &[u8] {
     facts::lookup(report, chunk, instruction)
 }
+
+/// The least workspace, or the refusal's number; not asked of this port.
+#[allow(dead_code)]
+pub fn words(_description: &[u8]) -> Option<Result<u64, u8>> {
+    None
+}

@@ -23,13 +23,27 @@ fn guarded<T>(work: impl FnOnce() -> T) -> Result<T, String> {
 }
 
 /// Buffers that are used again and again, with some room behind each that
-/// nothing may touch.
+/// nothing may touch. Under valgrind each is new, with nothing behind it.
 #[derive(Default)]
 pub struct Buffers {
     workspace: Vec<u32>,
     report: Vec<u8>,
 }
-const BEHIND: usize = 8;
+
+impl Buffers {
+    fn prepare(&mut self, words: usize, length: usize, start: u32) {
+        if cfg!(valgrind) {
+            *self = Buffers::default();
+            self.workspace.reserve_exact(words);
+            self.report.reserve_exact(length);
+        }
+        self.workspace.resize(words + BEHIND, 0);
+        self.report.resize(length + BEHIND, 0);
+        self.workspace.iter_mut().enumerate().for_each(|(at, word)| *word = word_before(start, at));
+        self.report.iter_mut().enumerate().for_each(|(at, byte)| *byte = byte_before(start, at));
+    }
+}
+const BEHIND: usize = if cfg!(valgrind) { 0 } else { 8 };
 
 /// What a word or byte of a buffer is before the call; a word is never 0.
 fn word_before(start: u32, at: usize) -> u32 {
@@ -48,10 +62,9 @@ pub struct Bounds {
 /// None where the port does as the oracle says; else what differs.
 pub fn differs(bytes: &[u8], bounds: &Bounds, expected: &Outcome, start: u32, b: &mut Buffers) -> Option<String> {
     let (words, length) = (bounds.words, bounds.report_len);
-    b.workspace.resize(words + BEHIND, 0);
-    b.report.resize(length + BEHIND, 0);
-    b.workspace.iter_mut().enumerate().for_each(|(at, word)| *word = word_before(start, at));
-    b.report.iter_mut().enumerate().for_each(|(at, byte)| *byte = byte_before(start, at));
+    let own: Box<[u8]> = bytes.into();
+    let bytes = &own[..];
+    b.prepare(words, length, start);
     let (workspace, report) = (&mut b.workspace[..words], &mut b.report[..length]);
     let answer = match guarded(|| port::check(bytes, workspace, report, bounds.limit)) {
         Ok(answer) => answer,
@@ -131,8 +144,21 @@ fn field_at(report: &[u8], at: usize) -> String {
     "in no field".into()
 }
 
+/// The least workspace of a description, or the refusal's number, where the
+/// port says it.
+pub fn words_differ(bytes: &[u8], expected: Result<u64, u8>) -> Option<String> {
+    let own: Box<[u8]> = bytes.into();
+    match guarded(|| port::words(&own)) {
+        Ok(Some(answer)) if answer != expected => Some(format!("words {answer:?}, not {expected:?}")),
+        Ok(_) => None,
+        Err(panic) => Some(format!("words: {panic}")),
+    }
+}
+
 /// Looks some places up, in the bytes as they are.
 pub fn lookup_differs(report: &[u8], r: &mut Random) -> Option<String> {
+    let own: Box<[u8]> = report.into();
+    let report = &own[..];
     let mut recorded = Vec::new();
     let mut rest = report;
     while let Some((tag, contents, after)) = split_field(rest) {

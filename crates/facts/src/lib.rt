@@ -1,4 +1,4 @@
-// The library: `check` and `lookup`.
+// The library: `check`, `lookup`.
 pub use answers::Answer;
 pub use answers::Refusal;
 pub use find::lookup;

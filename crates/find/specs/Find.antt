@@ -1,5 +1,5 @@
 -- Lookup: in any bytes, the first field of tag 19 that names a chunk and an instruction; else the empty part at the end.
-use Prim.Native.Nat.{ℕ, _+_, _-_}
+use Prim.Native.Nat.{ℕ, _+_, _-_, _≤_}
 use mathlib.Core.Path.{_≡_}
 use mathlib.Core.Bool.{Bool, cond, _&&_}
 use mathlib.Core.List.{List, [], _∷_}
@@ -7,13 +7,10 @@ use lib.Dec.{eqb, ltb}
 use lib.ListN.{length, take, drop}
 use denote.Ref.{RefT}
 use Rattle.le.specs.Le.{at16}
+use Rattle.find.specs.declared.Part.{Part}
 use Rattle.description.specs.Fields.{tagAt, lenAt, nextAt, fieldsFrom}
 
--- a part of bytes: its first place and how many they are
-pub record Part : Type 0 where
-  pub first : ℕ
-  pub size : ℕ
-
+-- the bytes of a part
 unfoldable pub part : List ℕ → Part → List ℕ
 part s x = take (x .size) (drop (x .first) s)
 
@@ -35,6 +32,11 @@ foundIn s c i (p ∷ ps) = cond (ltb (length s) (nextAt s p)) (atEnd s) (cond (n
 
 unfoldable pub found : List ℕ → ℕ → ℕ → Part
 found s c i = foundIn s c i (fieldsFrom s 0)
+
+-- this part is answered, and it lies in the bytes
+pub record Within (s : List ℕ) (r x : Part) : Type 0 where
+  pub same : r ≡ x
+  pub fits : r .first + r .size ≤ length s
 
 -- what is answered is this part of what was lent: its place, and its bytes
 pub record Lent (s r : RefT (List ℕ)) (x : Part) : Type 0 where

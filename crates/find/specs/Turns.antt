@@ -7,7 +7,8 @@ use lib.ListN.{length}
 use borrow.Author.Tests.{lt-ltb, le-ltb}
 use Rattle.description.specs.Fields.{nextAt, fieldsFrom}
 use Rattle.description.specs.Walk.{fields-turn, fields-end}
-use Rattle.find.specs.Find.{Part, atEnd, whole, namesAt, foundIn, found}
+use Rattle.find.specs.declared.Part.{Part}
+use Rattle.find.specs.Find.{atEnd, whole, namesAt, foundIn, found}
 
 unfoldable pub foundFrom : List ℕ → ℕ → ℕ → ℕ → Part
 foundFrom s c i p = foundIn s c i (fieldsFrom s p)

@@ -4,7 +4,13 @@ use le::u16_at;
 ghost use mathlib.Core.Path.{_≡_};
 ghost use Prim.Native.Nat.{_<_, _^_};
 ghost use Rattle.description.specs.Fields.{nextAt};
-ghost use Rattle.find.specs.Find.{namesAt, found, Lent};
+ghost use Rattle.find.specs.Find.{namesAt, found, Within, Lent};
+
+// A part of bytes: its first place, and how many they are.
+pub struct Part {
+    pub first: usize,
+    pub size: usize,
+}
 
 // The place after the field at a place.
 fn end_at(report: &[u8], at: usize) -> usize
@@ -25,21 +31,34 @@ fn names(report: &[u8], at: usize, chunk: u16, instruction: u16) -> bool
         & (u16_at(report, at + 5) == instruction)
 }
 
-// The first such field, tag and length included, or the empty part at the end.
-pub fn lookup(report: &[u8], chunk: u16, instruction: u16) -> &[u8]
-    ensures { λ r. ⌜ Lent (report .entry) r (found (now (report .entry)) chunk instruction) ⌝ }
+// Where that part of the report stands: the first such field, tag and length included, or the empty part at the end.
+pub fn part_of(report: &[u8], chunk: u16, instruction: u16) -> Part
+    ensures { λ r. ⌜ Within (now (report .entry)) r (found (now (report .entry)) chunk instruction) ⌝ }
 {
     let n = report.len();
     let mut at = 0;
     while at < n {
         let end = end_at(report, at);
         if n < end {
-            return &report[n..];
+            return Part { first: n, size: 0 };
         }
         if names(report, at, chunk, instruction) {
-            return &report[at..end];
+            return Part {
+                first: at,
+                size: end - at,
+            };
         }
         at = end;
     }
-    &report[n..]
+    Part { first: n, size: 0 }
+}
+
+// That part, lent.
+pub fn lookup(report: &[u8], chunk: u16, instruction: u16) -> &[u8]
+    ensures { λ r. ⌜ Lent (report .entry) r (found (now (report .entry)) chunk instruction) ⌝ }
+{
+    let part = part_of(report, chunk, instruction);
+    let first = part.first;
+    let end = first + part.size;
+    &report[first..end]
 }

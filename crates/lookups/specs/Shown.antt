@@ -13,7 +13,8 @@ use Rattle.description.specs.Fields.{tagAt, lenAt, nextAt}
 use Rattle.definition.specs.Report.{Report, Record, field, each, signatureBytes, slotBytes, recordBytes, countsBytes, cellsBytes, outputsBytes, guardsBytes, inspectionBytes, branchBytes, reportBytes}
 use Rattle.reading.specs.Has.{Has, has-left, has-right, has-at, has-same, has-all, read16, long16, long32}
 use Rattle.reading.specs.Walk.{field-long, contents-at, tag-at, next-at, length-at}
-use Rattle.find.specs.Find.{Part, part, atEnd, whole, namesAt, found}
+use Rattle.find.specs.declared.Part.{Part}
+use Rattle.find.specs.Find.{part, atEnd, whole, namesAt, found}
 use Rattle.find.specs.Turns.{foundFrom, from-start, ends, finds, passes}
 use Rattle.lookups.specs.Named.{isOf, named}
 

@@ -1,0 +1,44 @@
+-- What a program in another language gets: a number, and an array of its own filled with numbers.
+use Prim.Native.Nat.{ℕ, _+_}
+use mathlib.Core.Path.{_≡_}
+use mathlib.Core.Bool.{cond}
+use mathlib.Core.List.{List, [], _∷_}
+use lib.Dec.{eqb}
+use lib.ListN.{take, getD}
+use Rattle.answers.specs.Answers.{numbers}
+use Rattle.definition.specs.declared.Form.{Form}
+use Rattle.definition.specs.declared.Form.the-variants.{Fine, Refused}
+use Rattle.definition.specs.Module.{moduleOf}
+use Rattle.definition.specs.Call.{call}
+use Rattle.reading.specs.Read.{readReport}
+use Rattle.consistent.specs.Consistent.{Consistent}
+use Rattle.find.specs.declared.Part.{Part}
+
+-- s the description, ws and buf workspace and report buffer as they were; r what is returned, out, buf′ and ws′ what the call left
+pub record CallOf (s ws buf : List ℕ) (limit r : ℕ) (out buf′ ws′ : List ℕ) : Type 0 where
+  -- number, chunk, instruction, steps and length; the number is returned, too
+  pub answer : out ≡ numbers (call s ws buf limit .answer)
+  pub number : r ≡ getD out 0 0
+  pub report : buf′ ≡ call s ws buf limit .report
+  pub workspace : ws′ ≡ call s ws buf limit .workspace
+  -- demand 3, of the bytes that were written: 0 is returned only where the call is accepted
+  pub consistent : r ≡ 0 → Consistent (moduleOf s) (readReport (take (getD out 4 0) buf′))
+
+-- 0 for good form, or the refusal's number
+unfoldable pub formNumber : Form → ℕ
+formNumber (Fine w) = 0
+formNumber (Refused r) = r .number
+
+-- the least workspace, W + 1; 0 where there is none
+unfoldable pub leastWords : Form → ℕ
+leastWords (Fine w) = w + 1
+leastWords (Refused r) = 0
+
+pub record WordsOf (f : Form) (r : ℕ) (out : List ℕ) : Type 0 where
+  pub number : r ≡ formNumber f
+  pub words : out ≡ leastWords f ∷ []
+
+-- 1 where there is a record, 0 where there is none; the part's first byte and its length
+pub record PartOf (x : Part) (r : ℕ) (out : List ℕ) : Type 0 where
+  pub there : r ≡ cond (eqb (x .size) 0) 0 1
+  pub part : out ≡ x .first ∷ x .size ∷ []

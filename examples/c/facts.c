@@ -1,0 +1,116 @@
+/* facts FILE: the facts of a description, the record of one instruction, and
+ * a refusal. All memory is the program's own. */
+#include "facts.h"
+
+#include <stdio.h>
+#include <stdlib.h>
+
+enum { LARGEST = 1048576, REPORT = 1 << 20, LIMIT = 1000000, CELL = 49, HEAD = 3 };
+
+static unsigned u16_at(const uint8_t *at) { return at[0] | (unsigned)at[1] << 8; }
+
+static unsigned long u32_at(const uint8_t *at) { return u16_at(at) | (unsigned long)u16_at(at + 2) << 16; }
+
+static void *lend(size_t count, size_t size) {
+    void *memory = calloc(count, size);
+    if (memory == NULL) {
+        fputs("no memory\n", stderr);
+        exit(2);
+    }
+    return memory;
+}
+
+/* The file's bytes, and how many there are; one more than LARGEST is enough to see that it is too long. */
+static uint8_t *read_file(const char *path, size_t *length) {
+    uint8_t *bytes = lend(LARGEST + 1, 1);
+    FILE *file = fopen(path, "rb");
+    if (file == NULL) {
+        perror(path);
+        exit(2);
+    }
+    *length = fread(bytes, 1, LARGEST + 1, file);
+    fclose(file);
+    return bytes;
+}
+
+/* The masks of some cells, one behind another. */
+static void print_masks(const char *name, const uint8_t *cell, unsigned count) {
+    printf(" %s", name);
+    if (count == 0)
+        printf(" -");
+    for (unsigned k = 0; k < count; k++)
+        printf(" %u", u16_at(cell + k * CELL));
+}
+
+static void print_field(unsigned tag, const uint8_t *at) {
+    if (tag == 16)
+        printf("reply maximum %lu\n", u32_at(at));
+    if (tag == 19) {
+        unsigned stack = u16_at(at + 4), locals = u16_at(at + 6);
+        printf("%u %u", u16_at(at), u16_at(at + 2));
+        print_masks("stack", at + 12, stack);
+        print_masks("locals", at + 12 + stack * CELL, locals);
+        printf("\n");
+    }
+    if (tag == 20)
+        printf("inspection %u %u\n", u16_at(at), u16_at(at + 2));
+    if (tag == 21)
+        printf("branch %u %u %u\n", u16_at(at), u16_at(at + 2), at[4]);
+}
+
+static void print_report(const uint8_t *report, size_t length) {
+    for (size_t at = 0; at < length; at += HEAD + u16_at(report + at + 1))
+        print_field(report[at], report + at + HEAD);
+}
+
+static void print_record(const uint8_t *report, size_t length, uint16_t chunk, uint16_t instruction) {
+    uint64_t part[2];
+    if (facts_lookup(report, length, chunk, instruction, part))
+        printf("record of %u %u: %u bytes from byte %u\n", chunk, instruction, (unsigned)part[1], (unsigned)part[0]);
+    else
+        printf("record of %u %u: none\n", chunk, instruction);
+}
+
+static void print_refusal(const uint64_t *answer) {
+    printf("refused %u, chunk %u, instruction %u, %u steps\n", (unsigned)answer[FACTS_NUMBER],
+           (unsigned)answer[FACTS_CHUNK], (unsigned)answer[FACTS_INSTRUCTION], (unsigned)answer[FACTS_STEPS]);
+}
+
+int main(int count, char **args) {
+    size_t length;
+    uint64_t least[1], answer[FACTS_ANSWER];
+    if (count != 2) {
+        fputs("facts FILE\n", stderr);
+        return 2;
+    }
+    uint8_t *description = read_file(args[1], &length);
+    uint8_t *report = lend(REPORT, 1);
+
+    uint32_t number = facts_words(description, length, least);
+    if (number != 0) {
+        printf("no good form: %u\n", (unsigned)number);
+        return 1;
+    }
+    /* Room for some more entries in the queue than the least. */
+    size_t words = least[0] + 1000;
+    uint32_t *workspace = lend(words, sizeof *workspace);
+    printf("%u bytes, least workspace %u words\n", (unsigned)length, (unsigned)least[0]);
+
+    if (facts_check(description, length, workspace, words, report, REPORT, LIMIT, answer) != 0) {
+        print_refusal(answer);
+        return 1;
+    }
+    printf("accepted, %u steps, report of %u bytes\n", (unsigned)answer[FACTS_STEPS], (unsigned)answer[FACTS_LENGTH]);
+    print_report(report, answer[FACTS_LENGTH]);
+    print_record(report, answer[FACTS_LENGTH], 0, 2);
+    print_record(report, answer[FACTS_LENGTH], 0, 9);
+
+    /* One step too few is refused. */
+    uint32_t few = (uint32_t)answer[FACTS_STEPS] - 1;
+    facts_check(description, length, workspace, words, report, REPORT, few, answer);
+    print_refusal(answer);
+    free(workspace);
+    free(report);
+    free(description);
+    return 0;
+}

@@ -1,0 +1,88 @@
+//! `facts FILE`: the facts of a description, the record of one instruction,
+//! and a refusal. All memory is the program's own.
+
+use std::process::exit;
+
+const REPORT: usize = 1 << 20;
+const LIMIT: u32 = 1_000_000;
+const CELL: usize = 49;
+
+fn u16_at(bytes: &[u8], at: usize) -> usize {
+    usize::from(u16::from_le_bytes([bytes[at], bytes[at + 1]]))
+}
+
+/// The masks of some cells, one behind another.
+fn masks(cells: &[u8]) -> String {
+    let masks: Vec<String> = cells.chunks(CELL).map(|cell| u16_at(cell, 0).to_string()).collect();
+    if masks.is_empty() { "-".into() } else { masks.join(" ") }
+}
+
+fn print_field(tag: u8, field: &[u8]) {
+    match tag {
+        16 => println!("reply maximum {}", u16_at(field, 0) | u16_at(field, 2) << 16),
+        19 => {
+            let (stack, locals) = (u16_at(field, 4) * CELL, u16_at(field, 6) * CELL);
+            let cells = &field[12..];
+            let (stack, locals) = (&cells[..stack], &cells[stack..stack + locals]);
+            println!("{} {} stack {} locals {}", u16_at(field, 0), u16_at(field, 2), masks(stack), masks(locals));
+        }
+        20 => println!("inspection {} {}", u16_at(field, 0), u16_at(field, 2)),
+        21 => println!("branch {} {} {}", u16_at(field, 0), u16_at(field, 2), field[4]),
+        _ => {}
+    }
+}
+
+fn print_report(report: &[u8]) {
+    let mut rest = report;
+    while !rest.is_empty() {
+        let end = 3 + u16_at(rest, 1);
+        print_field(rest[0], &rest[3..end]);
+        rest = &rest[end..];
+    }
+}
+
+fn print_record(report: &[u8], chunk: u16, instruction: u16) {
+    let part = genduvo::lookup(report, chunk, instruction);
+    if part.is_empty() {
+        println!("record of {chunk} {instruction}: none");
+    } else {
+        let first = part.as_ptr() as usize - report.as_ptr() as usize;
+        println!("record of {chunk} {instruction}: {} bytes from byte {first}", part.len());
+    }
+}
+
+fn main() -> Result<(), Box<dyn std::error::Error>> {
+    let Some(path) = std::env::args().nth(1) else {
+        eprintln!("facts FILE");
+        exit(2);
+    };
+    let description = std::fs::read(path)?;
+    let mut report = vec![0; REPORT];
+    let least = match genduvo::words(&description) {
+        Ok(words) => words,
+        Err(reason) => {
+            println!("no good form: {reason}");
+            exit(1);
+        }
+    };
+    println!("{} bytes, least workspace {least} words", description.len());
+    // Room for some more entries in the queue than the least.
+    let mut workspace = vec![0; least + 1000];
+    let accepted = match genduvo::check(&description, &mut workspace, &mut report, LIMIT) {
+        Ok(accepted) => accepted,
+        Err(refusal) => {
+            println!("{refusal}");
+            exit(1);
+        }
+    };
+    println!("accepted, {} steps, report of {} bytes", accepted.steps, accepted.length);
+    print_report(&report[..accepted.length]);
+    print_record(&report[..accepted.length], 0, 2);
+    print_record(&report[..accepted.length], 0, 9);
+
+    // One step too few is refused.
+    if let Err(refusal) = genduvo::check(&description, &mut workspace, &mut report, accepted.steps - 1) {
+        println!("{refusal}");
+    }
+    Ok(())
+}

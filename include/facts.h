@@ -1,0 +1,97 @@
+/* Genduvo's static library, libfacts_c.a: the value-kind facts of a script.
+ *
+ * The caller owns all memory and lends it for one call. The library keeps no
+ * pointer, has no memory of its own beside the stack, and no state: threads
+ * may call it at the same time, each with memory of its own.
+ *
+ * A pointer must not be null, also where its length is 0, and must be aligned
+ * for its type. What is written (workspace, report, answer, words, part) must
+ * overlap nothing else of the same call.
+ */
+#ifndef FACTS_H
+#define FACTS_H
+
+#include <stddef.h>
+#include <stdint.h>
+
+#ifdef __cplusplus
+extern "C" {
+#endif
+
+/* A refusal's number, and by whose doing it comes:
+ *
+ * The exporter, who wrote the description:
+ *    1  bad tag, order or length, a flag not 0 or 1, an enum place or operand
+ *       with no meaning
+ *    2  over a largest value; a description has at most 1,048,576 bytes
+ *    3  entry or callee without signature, local not below L, more parameters
+ *       than L, an indexed access of 0 slots without layout, a call taking
+ *       more than its callee's parameters, a Yield without site
+ *    4  taken or given unfit for the instruction
+ * The host, who lends the memory and sets the limit:
+ *    5  workspace too small: facts_words says how many words are the least
+ *    6  report too long for its buffer
+ *    7  an entry due with the step limit used up
+ *    8  queue full: a larger workspace gives it room
+ * The script's author:
+ *    9  incomplete signatures or no instructions
+ *   10  parameter disagrees with its declared kind
+ *   11  reply unbounded
+ *   12  initializer past the slots
+ *   13  kinds not proven
+ *   14  private placements crossed
+ *   15  no packed extent
+ *   16  no discriminant
+ *   17  mixed receiver
+ *   18  unequal stack heights meeting, or a height above D
+ */
+
+/* The chunk or the instruction of a refusal that names none. */
+#define FACTS_NOWHERE 65535
+
+/* Where the numbers of an answer stand. */
+enum {
+    FACTS_NUMBER,      /* 0: accepted; else the refusal's number */
+    FACTS_CHUNK,       /* the chunk that the refusal names, or FACTS_NOWHERE */
+    FACTS_INSTRUCTION, /* the instruction that it names, or FACTS_NOWHERE */
+    FACTS_STEPS,       /* the steps taken */
+    FACTS_LENGTH,      /* the report's length in bytes; 0 in a refusal */
+    FACTS_ANSWER       /* how many numbers an answer has */
+};
+
+/* Analyses a description. Returns 0 and leaves the report in the first bytes
+ * of its buffer, or returns the refusal's number and leaves the buffer as it
+ * was. The bytes past a report stay as they were, too.
+ *
+ * description  its bytes; only read
+ * workspace    words to work in, whatever they hold: at least as many as
+ *              facts_words says; each one more is room for one more entry in
+ *              the queue. As it was after 1 to 5, zeros after all else
+ * report       the buffer for the report
+ * limit        the most steps to take
+ * answer       five numbers, all written on every call
+ */
+uint32_t facts_check(const uint8_t *description, size_t description_bytes,
+                     uint32_t *workspace, size_t workspace_words,
+                     uint8_t *report, size_t report_bytes,
+                     uint32_t limit, uint64_t answer[FACTS_ANSWER]);
+
+/* The least workspace for a description, in words. Returns 0 where it has
+ * good form; else 1 to 4, and words[0] is 0.
+ */
+uint32_t facts_words(const uint8_t *description, size_t description_bytes,
+                     uint64_t words[1]);
+
+/* The record of an instruction in a report, or in any bytes. Returns 1 where
+ * there is one: part[0] is the place of its first byte, its tag, and part[1]
+ * its length in bytes, tag and length included. Returns 0 where there is none:
+ * part[0] is report_bytes and part[1] is 0.
+ */
+uint32_t facts_lookup(const uint8_t *report, size_t report_bytes,
+                      uint16_t chunk, uint16_t instruction, uint64_t part[2]);
+
+#ifdef __cplusplus
+}
+#endif
+
+#endif
