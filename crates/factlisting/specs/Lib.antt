@@ -1,0 +1,2 @@
+pub mod Factlist
+pub mod Listed

@@ -1,0 +1,5 @@
+pub mod Decimal
+pub mod Listing
+pub mod Laid
+pub mod Turns
+pub mod Worked
