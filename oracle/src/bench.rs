@@ -13,9 +13,16 @@
 //! Every description is first compared: answer, steps, every byte of the report.
 //! In each round the Rust, the port and the engine have their turn at one
 //! description; the best time of each is taken, and summed over a shape.
+//! With `cfg(linked)` the port is the static library, without the engine alone.
+
+#![allow(unexpected_cfgs)]
 
 #[cfg(parts)]
 mod parts;
+#[cfg(linked)]
+#[path = "linked.rs"]
+mod port;
+#[cfg(not(linked))]
 mod port;
 mod shapes;
 #[allow(dead_code)]

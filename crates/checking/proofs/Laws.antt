@@ -9,6 +9,7 @@ use lib.ListN.{length, replicate}
 use Rattle.answers.specs.declared.Refusal.{Refusal}
 use Rattle.answers.specs.declared.Answer.{Answer}
 use Rattle.answers.specs.declared.Answer.the-variants.{Refused}
+use Rattle.answers.specs.Answers.{numbers}
 use Rattle.definition.specs.declared.Form.{Form}
 use Rattle.definition.specs.declared.Form.the-variants.{Fine}
 use Rattle.definition.specs.declared.Form.the-variants.{Refused as Malformed}
@@ -56,6 +57,7 @@ module _ (s ws buf : List ℕ) (limit : ℕ) where
   checked r buf′ ws′ a b w =
       record {
         answer = a;
+        said = ap numbers a;
         report = b;
         workspace = w;
         consistent = λ long steps e. rw b (demand-3 s ws buf limit long steps (sym a ∙ e));

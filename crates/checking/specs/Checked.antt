@@ -5,6 +5,7 @@ use mathlib.Core.List.{List}
 use lib.ListN.{take}
 use Rattle.answers.specs.declared.Answer.{Answer}
 use Rattle.answers.specs.declared.Answer.the-variants.{Accepted}
+use Rattle.answers.specs.Answers.{numbers}
 use Rattle.definition.specs.Module.{moduleOf}
 use Rattle.definition.specs.Call.{call}
 use Rattle.reading.specs.Read.{readReport}
@@ -12,8 +13,9 @@ use Rattle.consistent.specs.Consistent.{Consistent}
 
 -- s the description, ws and buf workspace and report buffer as they were; r, buf′ and ws′ the answer and what the call left
 pub record Checked (s ws buf : List ℕ) (limit : ℕ) (r : Answer) (buf′ ws′ : List ℕ) : Type 0 where
-  -- demands 1 and 2
+  -- demands 1 and 2; an answer's numbers are document 01's
   pub answer : r ≡ call s ws buf limit .answer
+  pub said : numbers r ≡ numbers (call s ws buf limit .answer)
   pub report : buf′ ≡ call s ws buf limit .report
   pub workspace : ws′ ≡ call s ws buf limit .workspace
   -- demand 3, of the bytes that were written

@@ -18,8 +18,8 @@ use proving::places_asked;
 use proving::want_at;
 use putting::put_cell;
 use putting::put_head;
+use putting::put_stored;
 use telling::record_len;
-use words::load;
 ghost use mathlib.Core.Path.{_≡_};
 ghost use mathlib.Core.List.{[], _++_};
 ghost use Prim.Native.Nat.{_+_, _*_, _<_, _≤_};
@@ -48,7 +48,7 @@ pub fn put_cells(ws: &[u32], buf: &mut [u8], at: usize, word: usize, n: usize) -
     let mut k = 0;
     let mut to = at;
     while k < n {
-        to = put_cell(buf, to, load(ws, word + 16 * k));
+        to = put_stored(ws, buf, to, word + 16 * k);
         k += 1;
     }
     to

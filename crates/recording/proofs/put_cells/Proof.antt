@@ -2,12 +2,12 @@
 use Prim.Native.Nat.{_*_, _-_, _≤_}
 use denote.Ref.{now}
 use native.Mathlib.Omega.{arith}
-use mathlib.Core.Path.{_≡_, ap}
+use mathlib.Core.Path.{_≡_}
 use Rattle.le.specs.Wrote.{Wrote}
 use Rattle.le.specs.Laws.{and-then, resize, same-length as same-long}
 use Rattle.putting.specs.Laws.{said}
 use Rattle.words.specs.Rows.{cellsAt}
-use Rattle.definition.specs.Report.{cellBytes, cellsBytes}
+use Rattle.definition.specs.Report.{cellsBytes}
 use Rattle.recording.specs.Writes.{wrote-none, cells-none, cells-more}
 use Rattle.recording.proofs.put_cells.Statement.{statement}
 use Rattle.recording.proofs.put_cells.Tie as tie
@@ -23,17 +23,16 @@ loop-holds c =
     let a = c .before .before .args in
     (omega arith, said (wrote-none _ (a .at)) (cells-none (now (a .ws)) (a .word)))
 
-mul-load : tie.Need-mul-load Inv-loop μ-loop
-mul-load c = omega (arith, c .before .before .before .before .before .pre .0, c .before .loop-test .taken)
+mul-put-stored : tie.Need-mul-put-stored Inv-loop μ-loop
+mul-put-stored c = omega (arith, c .before .before .before .before .before .pre .0, c .before .loop-test .taken)
 
-add-load : tie.Need-add-load Inv-loop μ-loop
-add-load c = omega (arith, c .before .before .before .before .before .pre .0, c .before .loop-test .taken)
+add-put-stored : tie.Need-add-put-stored Inv-loop μ-loop
+add-put-stored c = omega (arith, c .before .before .before .before .before .pre .0, c .before .loop-test .taken)
 
-load-requires : tie.Need-load-requires Inv-loop μ-loop
-load-requires c κs = omega (arith, c .before .before .before .before .before .pre .0, c .before .loop-test .taken)
-
-put-cell-requires : tie.Need-put-cell-requires Inv-loop μ-loop
-put-cell-requires c κs = let i = c .before .before .before .loop .inv in omega (arith, c .before .before .before .before .before .before .pre .1, c .before .before .loop-test .taken, i .1 .next, same-long (i .1))
+put-stored-requires : tie.Need-put-stored-requires Inv-loop μ-loop
+put-stored-requires c κs =
+    let i = c .before .before .loop .inv in
+    (omega (arith, c .before .before .before .before .before .pre .0, c .before .loop-test .taken), omega (arith, c .before .before .before .before .before .pre .1, c .before .loop-test .taken, i .1 .next, same-long (i .1)))
 
 add-k : tie.Need-add-k Inv-loop μ-loop
 add-k c = omega arith
@@ -43,11 +42,11 @@ loop-less c = omega arith
 
 loop-again : tie.Need-loop-again Inv-loop μ-loop
 loop-again c =
-    let a = c .before .before .before .before .before .before .before .before .before .args in
-    let i = c .before .before .before .before .before .before .loop .inv in
-    let k = c .before .before .before .before .before .before .loop .k in (
-      omega (arith, c .before .before .before .before .before .loop-test .taken),
-      resize (said (and-then (i .1) (said (c .before .before .put-cell .ensures) (ap cellBytes (c .before .before .before .load .ensures)))) (cells-more (now (a .ws)) (a .word) k)) (omega arith),
+    let a = c .before .before .before .before .before .before .before .before .args in
+    let i = c .before .before .before .before .before .loop .inv in
+    let k = c .before .before .before .before .before .loop .k in (
+      omega (arith, c .before .before .before .before .loop-test .taken),
+      resize (said (and-then (i .1) (c .before .before .put-stored .ensures)) (cells-more (now (a .ws)) (a .word) k)) (omega arith),
     )
 
 same-length : tie.Need-same-length Inv-loop μ-loop
@@ -67,10 +66,9 @@ put-cells-spec =
     Inv-loop
     μ-loop
     loop-holds
-    mul-load
-    add-load
-    load-requires
-    put-cell-requires
+    mul-put-stored
+    add-put-stored
+    put-stored-requires
     add-k
     loop-less
     loop-again
