@@ -11,6 +11,8 @@ use lib.ListN.{length, getD}
 use Rattle.description.specs.declared.Header.{Header}
 use Rattle.description.specs.Fields.{tagAt, nextAt, headerOf, fieldsFrom}
 use Rattle.description.specs.Walk.{next-after, fields-turn, fields-end}
+use Rattle.reader.specs.Reading.{after}
+use Rattle.reader.specs.Laws.{after-within, fields-after}
 use Rattle.definition.specs.Module.{codeAfter, chunksFrom}
 use Rattle.goodform.specs.Good.{Good}
 use Rattle.layout.specs.declared.Tables.{Tables}
@@ -37,19 +39,19 @@ pub record Going (s begin : List ℕ) (q : ℕ) (ws : List ℕ) (t : Tables) (w 
   pub shared : t .shared ≤ at
   pub inits : t .inits ≤ at
 
-pub going-first : (s ws : List ℕ) (q : ℕ) (t : Tables) (w : Work) (at : ℕ) → Good s q → q ≤ length ws → t ≡ firstTables s q → w ≡ firstWork t → at ≡ nextAt s 0
+pub going-first : (s ws : List ℕ) (q : ℕ) (t : Tables) (w : Work) (at : ℕ) → Good s q → q ≤ length ws → t ≡ firstTables s q → w ≡ firstWork t → at ≡ after s 0
     → Going s ws q ws t w at
 unfolding firstTables
 going-first s ws q t w at g l e f h =
     rw (h, f, e)
     (record {
-      words = refl;
-      tables = refl;
-      room = room-first s q g;
+      words = rw (fields-after s 0);
+      tables = rw (fields-after s 0);
+      room = rw (fields-after s 0) (room-first s q g);
       long = refl;
       enough = l;
       short = g .long;
-      place = omega (arith, g .next);
+      place = omega (arith, g .long, after-within s 0);
       natives = omega arith;
       shared = omega arith;
       inits = omega arith;

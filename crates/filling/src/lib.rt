@@ -13,6 +13,7 @@ use layout::slot_at;
 use le::u8_at;
 use le::u16_at;
 use masks::Mask;
+use reader::second;
 ghost use mathlib.Core.Path.{_≡_};
 ghost use mathlib.Core.Bool.{cond};
 ghost use Prim.Native.Nat.{ℕ, _+_, _*_, _<_, _≤_, _^_};
@@ -276,7 +277,7 @@ fn walk(s: &[u8], ws: &mut [u32], queue: usize) -> Tables
 {
     let mut t = first_tables(s, queue);
     let mut w = first_work(t);
-    let mut at = next_at(s, 0);
+    let mut at = second(s);
     while at < s.len() {
         let tag = tag_at(s, at);
         w = fill_code(tag, s, ws, at, t, w);

@@ -9,6 +9,8 @@ use lib.ListN.{length}
 use Rattle.answers.specs.declared.Refusal.{Refusal}
 use Rattle.description.specs.Fields.{nextAt, fieldsFrom}
 use Rattle.description.specs.Walk.{fields-turn, fields-end}
+use Rattle.reader.specs.Reading.{after}
+use Rattle.reader.specs.Laws.{after-next}
 use Rattle.definition.specs.declared.Scan.{Scan}
 use Rattle.definition.specs.declared.Step.the-variants.{Go, Stop}
 use Rattle.definition.specs.declared.Form.{Form}
@@ -48,16 +50,17 @@ walk-start s h =
     }
 
 module _ (s : List ℕ) (p : ℕ) (t : Scan) (w : Form) (k : Walking s p t w) where
-  pub walk-go : (u : Scan) → p < length s → fieldStep s p t ≡ Go u → Walking s (nextAt s p) u w
+  pub walk-go : (u : Scan) → p < length s → fieldStep s p t ≡ Go u → Walking s (after s p) u w
   unfolding scanFrom onStep
   walk-go u h e =
       let a : After s p t u = go-after s p t u (k .bound) e in
-      record {
+      rw (after-next s p (go-inside s p t u e))
+      (record {
         inside = go-inside s p t u e;
         bound = a .bound;
         gives = rw (fields-turn s p h, e) at (k .gives);
         counts = sym (a .count (fieldsFrom s (nextAt s p))) ∙ (rw (fields-turn s p h) at (k .counts));
-      }
+      })
 
   pub walk-stop : (r : Refusal) → p < length s → fieldStep s p t ≡ Stop r → Refused r ≡ w
   unfolding scanFrom onStep

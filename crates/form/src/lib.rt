@@ -1,12 +1,14 @@
 // The form checks: refusals 1 to 4, and the number of workspace words. One walk over the fields, in byte order; then the two late looks.
-// Nothing is written.
+// Nothing is written. The scan takes a reader; every other caller has check_form.
 use answers::Refusal;
 use answers::nowhere;
 use definition::Form;
 use definition::Scan;
 use definition::Step;
-use description::next_at;
 use late::late_look;
+use reader::Reader;
+use reader::place_after;
+use reader::start;
 use steps::field_step;
 ghost use mathlib.Core.Path.{_≡_};
 ghost use mathlib.Core.Bool.{true};
@@ -14,6 +16,7 @@ ghost use Prim.Native.Nat.{_≤_, _^_};
 ghost use lib.ListN.{length};
 ghost use Rattle.description.specs.Fields.{fieldsFrom};
 ghost use Rattle.definition.specs.Form.{afterLook, finished, formOf};
+ghost use Rattle.reader.specs.Reading.{left};
 ghost use Rattle.late.specs.Counted.{counted};
 ghost use Rattle.codesteps.specs.Bounds.{Bounded};
 
@@ -41,7 +44,8 @@ fn finish(s: &[u8], scan: Scan) -> Form
     after_look(late, 16 * scan.cells)
 }
 
-pub fn check_form(s: &[u8]) -> Form
+// All fields of a description, one by one.
+fn read_all(s: &[u8]) -> Form
     ensures { λ r. ⌜ r ≡ formOf (now (s .entry)) ⌝ }
 {
     if 1048576 < s.len() {
@@ -67,9 +71,34 @@ pub fn check_form(s: &[u8]) -> Form
             }
             Step::Go(next) => {
                 scan = next;
-                at = next_at(s, at);
+                at = place_after(s, at);
             }
         }
     }
     finish(s, scan)
+}
+
+// The form of what stands from a place on, taken as a description.
+fn scan_from(s: &[u8], at: usize) -> Form
+    ensures { λ r. ⌜ r ≡ formOf (left (now (s .entry)) at) ⌝ }
+{
+    let n = s.len();
+    if at < n {
+        return read_all(&s[at..]);
+    }
+    read_all(&s[n..])
+}
+
+// The form of what a reader has left to read.
+pub fn scan<'a>(r: Reader<'a>) -> Form
+    ensures { λ f. ⌜ f ≡ formOf (left (now (r .entry .src)) (r .entry .at)) ⌝ }
+{
+    scan_from(r.src, r.at)
+}
+
+// The form of a whole description: a reader starts, and has all of it left.
+pub fn check_form(s: &[u8]) -> Form
+    ensures { λ r. ⌜ r ≡ formOf (now (s .entry)) ⌝ }
+{
+    scan(start(s))
 }

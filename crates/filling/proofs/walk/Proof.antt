@@ -17,11 +17,11 @@ first-tables-requires c κs = c .before .before .pre .0
 first-work-requires : tie.Need-first-work-requires Inv-loop μ-loop
 first-work-requires c κs = first-fits _ _ _ (c .before .before .before .pre .0) (c .first-tables .ensures)
 
-next-at-requires : tie.Need-next-at-requires Inv-loop μ-loop
-next-at-requires c κs = omega arith
+second-requires : tie.Need-second-requires Inv-loop μ-loop
+second-requires c κs = tt
 
 loop-holds : tie.Need-loop-holds Inv-loop μ-loop
-loop-holds c = going-first _ _ _ _ _ _ (c .before .before .before .before .before .pre .0) (c .before .before .before .before .before .pre .1 .0) (c .before .before .first-tables .ensures) (c .before .first-work .ensures) (c .next-at .ensures .0)
+loop-holds c = going-first _ _ _ _ _ _ (c .before .before .before .before .before .pre .0) (c .before .before .before .before .before .pre .1 .0) (c .before .before .first-tables .ensures) (c .before .first-work .ensures) (c .second .ensures)
 
 tag-at-requires : tie.Need-tag-at-requires Inv-loop μ-loop
 tag-at-requires c κs = omega arith
@@ -35,19 +35,19 @@ fill-slot-requires c κs = going-slots _ _ _ _ _ _ _ (c .before .before .before 
 tables-after-requires : tie.Need-tables-after-requires Inv-loop μ-loop
 tables-after-requires c κs = going-tables _ _ _ _ _ _ _ (c .before .before .before .before .before .before .before .before .before .before .loop .inv)
 
-next-at-requires-2 : tie.Need-next-at-requires-2 Inv-loop μ-loop
-next-at-requires-2 c κs = omega (arith, c .before .before .before .before .before .before .before .before .before .before .before .loop .inv .place)
+next-at-requires : tie.Need-next-at-requires Inv-loop μ-loop
+next-at-requires c κs = omega (arith, c .before .before .before .before .before .before .before .before .before .before .before .loop .inv .place)
 
 loop-less : tie.Need-loop-less Inv-loop μ-loop
-loop-less c = omega (arith, c .next-at2 .ensures, c .before .before .before .before .before .before .before .before .before .before .before .loop-test .taken)
+loop-less c = omega (arith, c .next-at .ensures, c .before .before .before .before .before .before .before .before .before .before .before .loop-test .taken)
 
 loop-again : tie.Need-loop-again Inv-loop μ-loop
 loop-again c =
     going-next _ _ _ _ _ _ _ _ _ _ _ _ _ (c .before .before .before .before .before .before .before .before .before .before .before .before .loop .inv) (c .before .before .before .before .before .before .before .before .before .before .before .loop-test .taken) (c .before .before .before .before .before .before .before .before .before .before .tag-at .ensures) (c .before .before .before .before .before .before .before .before .fill-code .ensures .0) (c .before .before .before .before .before .before .before .before .fill-code .ensures .1)
     (c .before .before .before .before .fill-slot .ensures)
     (c .before .tables-after .ensures)
-    (c .next-at2 .ensures .0)
-    (c .next-at2 .ensures .2)
+    (c .next-at .ensures .0)
+    (c .next-at .ensures .2)
 
 same-length : tie.Need-same-length Inv-loop μ-loop
 same-length c = c .before .loop .inv .long
@@ -63,13 +63,13 @@ walk-spec =
     μ-loop
     first-tables-requires
     first-work-requires
-    next-at-requires
+    second-requires
     loop-holds
     tag-at-requires
     fill-code-requires
     fill-slot-requires
     tables-after-requires
-    next-at-requires-2
+    next-at-requires
     loop-less
     loop-again
     same-length
