@@ -17,7 +17,7 @@ use Rattle.definition.specs.Module.{moduleOf}
 use Rattle.definition.specs.Leaves.{opened}
 use Rattle.definition.specs.Start.{firstFacts}
 use Rattle.definition.specs.Report.{Report, reportBytes}
-use Rattle.definition.specs.Call.{Decided, reported, turned, onRan, runOf, decided, turnedBack, delivered, outcomeOf, call}
+use Rattle.definition.specs.Call.{Decided, reported, turned, onRan, runOf, decided, turnedBack, delivered, outcomeOf}
 use Rattle.goodform.specs.Good.{wordsOf}
 use Rattle.held.specs.Held.{liveIn}
 use Rattle.course.specs.Course.{Prepared, Ended, knownAs, roomIn}

@@ -1,26 +1,16 @@
 -- What the start has and every visit keeps, every state and fact of an accepted run has. Over any state, facts, join and rule.
 use Prim.Native.Nat.{ℕ, zero, suc}
 use native.Mathlib.Omega.{arith}
-use mathlib.Core.Path.{_≡_, refl, sym, _∙_, ap}
+use mathlib.Core.Path.{_≡_, refl}
 use mathlib.Core.Bool.{Bool, true, false, not, cond}
 use mathlib.Core.Option.{Option, none, some}
 use mathlib.Core.List.{List, [], _∷_, _++_}
-use lib.ListN.{length, getD, set}
+use lib.ListN.{length, getD}
 use lib.Dec.{ltb}
-use Rattle.answers.specs.declared.Refusal.{Refusal}
-use Rattle.definition.specs.Res.{Res, ok, bad, bind}
-use Rattle.definition.specs.Machine.{Joined, Effect, Work, Seen, Machine, Final, Stop, Where, due, done, stop, Ran, accepted, refused, push, putJoined, putAt, putIn, put, puts, visitAt, visit, adds, enter, finish, endRound, ending, onward, settle, settled, onSeen, takes, next, entryDue, onNext, run, begun, check}
+use Rattle.definition.specs.Res.{Res, ok, bad}
+use Rattle.definition.specs.Machine.{Joined, Effect, Work, Seen, Machine, Final, Where, due, done, stop, Ran, accepted, push, putJoined, putAt, putIn, put, puts, visitAt, visit, adds, enter, finish, endRound, ending, onward, settle, settled, onSeen, takes, next, onNext, run, begun, check}
+use Rattle.worklist.specs.Bind.{bad≢ok, ok-inj, bind-use}
 use Rattle.carried.specs.All.{All, nil, cons, all-append, all-set, all-get, Opt}
-
-pub bad≢ok : {A : Type 0} {n : ℕ} {a : A} → bad n ≡ ok a → ⊥
-bad≢ok h = let z : _≡_ {A = ℕ} 0 1 = cc in omega arith
-
-pub ok-inj : {A : Type 0} {a b : A} → ok a ≡ ok b → a ≡ b
-ok-inj h = cc
-
-pub bind-use {ℓ} : {A B : Type 0} {C : Type ℓ} (r : Res A) (f : A → Res B) {b : B} → bind r f ≡ ok b → ((a : A) → r ≡ ok a → f a ≡ ok b → C) → C
-bind-use (ok a) f h k = k a refl h
-bind-use (bad n) f h k = absurd (bad≢ok h)
 
 module _ {S : Type 0} (P : S → Type 0) where
   abbrev pub StatesOk : List (Option S) → Type 0

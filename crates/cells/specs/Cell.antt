@@ -1,6 +1,6 @@
 -- Cells: what types.rs keeps as tag, width and flow of one place. `value_fact` is `declared`, `ValueFact::join` of bare cells and `Facts::join` are `joinCell`.
 use Prim.Native.Nat.{ℕ, _-_}
-use mathlib.Core.Bool.{Bool, true, false, cond, not, _&&_}
+use mathlib.Core.Bool.{Bool, cond, not, _&&_}
 use lib.Count.{trailingZeros}
 use lib.ListN.{getD}
 use Rattle.masks.specs.declared.Mask.{Mask}

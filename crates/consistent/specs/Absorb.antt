@@ -28,10 +28,11 @@ use Rattle.definition.specs.Data.{isBody}
 use Rattle.definition.specs.Outputs.{noCell}
 use Rattle.definition.specs.Leaves.{joinAt, storedFlow, withFlows, writeFlow, writeMask, writeSlot, writeSlots, absorb, unionMasks, sameMasks, opened, closed, moved}
 use Rattle.definition.specs.Start.{firstFacts}
-use Rattle.goodform.specs.Tests.{or-left, or-right}
+use Rattle.masks.specs.Both.{or-left, or-right}
+use Rattle.goodform.specs.Each.{joinCells-length}
 use Rattle.consistent.specs.Basics.{or-true}
 use Rattle.consistent.specs.Rows.{Grows, grows-of, over, over-wider, taken-at, In, Wider, wider-refl, wider-trans, at-still, at-has, at-wider}
-use Rattle.consistent.specs.States.{cell-grows, cells-grows, cells-equals, cells-length}
+use Rattle.consistent.specs.States.{cell-grows, cells-grows, cells-equals}
 use Rattle.consistent.specs.Consistent.{Private}
 
 union-grows : Grows union
@@ -46,7 +47,7 @@ unfolding joinAt
 at-rows l i cs n = go (ℕ-discrete n i) (decLt i (length l))
   where
     go : Dec (n ≡ i) → Dec (i < length l) → length (getD (set l i (joinCells (getD l i []) cs)) n []) ≡ length (getD l n [])
-    go (yes e) (yes h) = rw (e, getD-set-same l i (joinCells (getD l i []) cs) [] h) (cells-length (getD l i []) cs)
+    go (yes e) (yes h) = rw (e, getD-set-same l i (joinCells (getD l i []) cs) [] h) (joinCells-length (getD l i []) cs)
     go (yes e) (no h) = rw (set-out l i (joinCells (getD l i []) cs) (omega arith))
     go (no e) d = rw (getD-set-other l i n (joinCells (getD l i []) cs) [] e)
 

@@ -6,11 +6,11 @@ use mathlib.Core.List.{List, _++_}
 use lib.Dec.{ltb}
 use lib.ListN.{length, drop, replicate}
 use Rattle.answers.specs.declared.Answer.the-variants.{Accepted}
-use Rattle.laws.specs.Join.{never}
 use Rattle.definition.specs.Module.{moduleOf}
 use Rattle.definition.specs.Form.{nowhere}
 use Rattle.definition.specs.Report.{Report, reportBytes}
 use Rattle.definition.specs.Call.{Decided, reported, turned, decide, Outcome, turnedBack, delivered, outcomeOf, call}
+use Rattle.masks.specs.Both.{never}
 use Rattle.consistent.specs.Consistent.{Consistent}
 use Rattle.consistent.specs.Theorem.{consistent}
 

@@ -1,18 +1,18 @@
 -- Demand 3 over the bytes that an accepted call leaves in its buffer.
 use Prim.Native.Nat.{ℕ}
-use mathlib.Core.Path.{_≡_, refl, sym, _∙_, ap}
-use mathlib.Core.List.{List, _++_}
+use mathlib.Core.Path.{_≡_, _∙_, ap}
+use mathlib.Core.List.{List}
 use lib.ListN.{length, take, drop}
 use lib.Seq.{take-at}
 use Rattle.answers.specs.declared.Answer.the-variants.{Accepted}
 use Rattle.definition.specs.Module.{moduleOf}
 use Rattle.definition.specs.Report.{Report, reportBytes}
-use Rattle.definition.specs.Call.{decide, call}
+use Rattle.definition.specs.Call.{call}
 use Rattle.reading.specs.Read.{readReport}
 use Rattle.reading.specs.Reports.{decided-back}
 use Rattle.consistent.specs.Consistent.{Consistent}
 use Rattle.consistent.specs.Theorem.{consistent}
-use Rattle.consistent.specs.Accepted.{Left, accepted-left}
+use Rattle.consistent.specs.Accepted.{accepted-left}
 
 -- THEOREM (demand 3): the first `long` bytes of the buffer, read back field by field, are a report that is consistent beside the description
 pub demand-3 : (s ws buf : List ℕ) (limit long steps : ℕ) → call s ws buf limit .answer ≡ Accepted long steps

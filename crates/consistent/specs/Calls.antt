@@ -12,10 +12,11 @@ use Rattle.definition.specs.declared.Form.the-variants.{Fine}
 use Rattle.definition.specs.Module.{Module, Chunk, Line, moduleOf}
 use Rattle.definition.specs.Leaves.{lineAt, noLine}
 use Rattle.definition.specs.Start.{declaredParams, firstFacts}
-use Rattle.definition.specs.Form.{callee, fits, fitOf, formOf}
+use Rattle.definition.specs.Form.{callee, formOf}
 use Rattle.goodform.specs.Good.{noChunk, chunkNo, lineNo, LineGood, ChunkGood}
 use Rattle.goodform.specs.Each.{mem-at, map-at}
 use Rattle.goodform.specs.Theorem.{good-form}
+use Rattle.ruled.specs.Told.{call-callee}
 use Rattle.consistent.specs.Consistent.{lineOf}
 use Rattle.consistent.specs.Range.{CallsFit}
 
@@ -27,10 +28,6 @@ inputs-of m a l h =
     let signed = take (m .signatures) (m .chunks) in
     let k : a < length signed = omega (arith, length-take (m .signatures) (m .chunks)) in
     ap length (map-at (declaredParams m) signed a noChunk [] k) ∙ rw (getD-take (m .signatures) (m .chunks) a noChunk h, length-map)
-
-calls-callee : (op : ℕ) → op ≡ 30 → fitOf op .meaning ≡ callee
-unfolding fitOf fits
-calls-callee op e = rw e
 
 -- an instruction that calls is one of the code
 in-code : (c : Chunk) (i : ℕ) → lineOf c i .instr .op ≡ 30 → i < length (c .code)
@@ -51,5 +48,5 @@ calls-fit s w h c k i e =
     let (n, l, q) = mem-at noChunk (moduleOf s .chunks) k in
     let chunk : ChunkGood (moduleOf s) n c = rw q at (good .eachChunk n l) in
     let line : LineGood (moduleOf s) c (lineOf c i) = chunk .lines i (in-code c i e) in
-    let a = inputs-of (moduleOf s) (lineOf c i .instr .a) (good .signatures) (line .callee (calls-callee (lineOf c i .instr .op) e)) in
+    let a = inputs-of (moduleOf s) (lineOf c i .instr .a) (good .signatures) (line .callee (call-callee (lineOf c i .instr .op) e)) in
     omega (arith, a, line .call e)

@@ -5,9 +5,9 @@ use mathlib.Core.Bool.{Bool, true, false, cond, not}
 use mathlib.Core.Option.{Option, none, some}
 use mathlib.Core.List.{List, [], _∷_, _++_}
 use lib.ListN.{getD}
-use Rattle.laws.specs.Join.{never}
 use Rattle.definition.specs.Res.{Res, ok, bad, bind}
 use Rattle.definition.specs.Machine.{Joined, Effect, Work, Seen, Machine, Final, Where, due, done, stop, Ran, accepted, puts, visitAt, visit, adds, enter, finish, endRound, ending, onward, settle, settled, onSeen, takes, next, onNext, run, begun, check}
+use Rattle.masks.specs.Both.{never}
 
 module _ {C F R S G : Type 0}
     (join : S → S → Res (Joined S)) (cap : ℕ) (chunks : List C) (reachable : C → Bool)

@@ -1,28 +1,23 @@
 -- A report is decided: the form was fine, every reachable chunk admitted, the reply bounded, and a run accepted.
-use Prim.Native.Nat.{ℕ, zero, suc, _-_, _<_}
-use native.Mathlib.Omega.{arith}
+use Prim.Native.Nat.{ℕ, _-_}
 use mathlib.Core.Path.{_≡_, refl, sym, _∙_, ap₂}
-use mathlib.Core.Logic.{_⊎_, inl, inr}
-use mathlib.Core.Bool.{Bool, true, false, not, cond, _&&_}
+use mathlib.Core.Bool.{Bool, true, false, cond}
 use mathlib.Core.Option.{Option, none, some}
-use mathlib.Core.List.{List, [], _∷_, List·Memᴰ, List·Memᴰ·not-nil, List·Memᴰ·cases-cons}
-use lib.Dec.{eqb, leb}
-use lib.ListN.{length}
-use borrow.Author.Tests.{eqb-true, not-false, leb-false}
-use Rattle.laws.specs.Join.{never}
+use mathlib.Core.List.{List}
+use lib.Dec.{leb}
 use Rattle.definition.specs.declared.Form.{Form}
 use Rattle.definition.specs.declared.Form.the-variants.{Fine, Refused}
 use Rattle.definition.specs.Machine.{Ran, accepted, refused, Final}
-use Rattle.definition.specs.Module.{Module, Chunk, moduleOf}
+use Rattle.definition.specs.Module.{Module, moduleOf}
 use Rattle.definition.specs.State.{State, Facts, join}
 use Rattle.definition.specs.Leaves.{Known, leaves, absorb, opened, closed, moved}
 use Rattle.definition.specs.Form.{formOf, nowhere}
-use Rattle.definition.specs.Start.{agree, admission, admitted, firstFacts, overfull, replyMaximum, knownOf, start, afterChunk}
+use Rattle.definition.specs.Start.{admitted, firstFacts, overfull, replyMaximum, knownOf, start, afterChunk}
 use Rattle.definition.specs.Report.{Report, reportOf}
 use Rattle.definition.specs.Call.{runOf, reported, turned, onRan, admittedRun, onReply, known, onAdmitted, decided, onForm, decide}
 use Rattle.worklist.specs.Limits.{accepted-same}
-use Rattle.goodform.specs.Tests.{or-left, or-right, and-off}
-use Rattle.consistent.specs.Basics.{some-inj}
+use Rattle.masks.specs.Both.{never}
+use Rattle.worklist.specs.Bind.{some-inj}
 
 -- what a run of the module was
 pub record Made (m : Module) (cap limit : ℕ) (r : Report) (n : ℕ) : Type 0 where
@@ -77,42 +72,6 @@ of-decide s words limit r n h = go (formOf s) refl h
         → (w : ℕ) × (cap : ℕ) × (formOf s ≡ Fine w) × Made (moduleOf s) cap limit r n
     go (Refused z) e h = never (cc)
     go (Fine w) e h = (w, words - w, e, room w (leb words w) h)
-
--- ---- an admitted chunk has an instruction and a signature
-not-empty : (n : ℕ) → eqb n 0 ≡ false → 0 < n
-not-empty zero h = never (sym h)
-not-empty (suc n) h = omega arith
-
-pub record Admitted (m : Module) (c : Chunk) : Type 0 where
-  pub code : 0 < length (c .code)
-  pub signed : c .number < m .signatures
-
-admission-says : (m : Module) (c : Chunk) → admission m c ≡ 0 → Admitted m c
-unfolding admission
-admission-says m c h =
-    let p = go _ (agree (c .tags) (c .params)) h in
-    record {
-      code = not-empty (length (c .code)) (or-left _ _ (or-right (leb (m .signatures) (c .number)) _ p));
-      signed = leb-false (m .signatures) (c .number) (or-left _ _ p);
-    }
-  where
-    go : (a b : Bool) → _≡_ {A = ℕ} (cond a 9 (cond b 0 10)) 0 → a ≡ false
-    go true b h = absurd (omega arith)
-    go false b h = refl
-
-pub all-admitted : (m : Module) (cs : List Chunk) → admitted m cs ≡ none → (c : Chunk) → List·Memᴰ c cs → c .reachable ≡ true → Admitted m c
-unfolding admitted
-all-admitted m [] h c k e = absurd (List·Memᴰ·not-nil k)
-all-admitted m (x ∷ xs) h c k e = go (x .reachable && not (eqb (admission m x) 0)) refl h (all-admitted m xs) (List·Memᴰ·cases-cons k)
-  where
-    fine : (x .reachable && not (eqb (admission m x) 0)) ≡ false → x .reachable ≡ true → admission m x ≡ 0
-    fine p q = eqb-true (admission m x) 0 (not-false _ (and-off (x .reachable) _ p q))
-
-    go : (b : Bool) → (x .reachable && not (eqb (admission m x) 0)) ≡ b → cond b (some (admission m x, x .number)) (admitted m xs) ≡ none
-        → (admitted m xs ≡ none → (c : Chunk) → List·Memᴰ c xs → c .reachable ≡ true → Admitted m c) → (c ≡ x) ⊎ List·Memᴰ c xs → Admitted m c
-    go true p h below k = never (cc)
-    go false p h below (inr k) = below h c k e
-    go false p h below (inl q) = rw q (admission-says m x (fine p (rw q at e)))
 
 -- ---- two runs of a module
 same-made : (m : Module) (cap cap′ limit limit′ : ℕ) (r r′ : Report) (n n′ : ℕ) → Made m cap limit r n → Made m cap′ limit′ r′ n′ → (r ≡ r′) × (n ≡ n′)

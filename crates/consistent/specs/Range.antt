@@ -3,30 +3,28 @@ use Prim.Native.Nat.{ℕ, zero, suc, _+_, _<_, _≤_}
 use native.Mathlib.Omega.{arith}
 use mathlib.Core.Path.{_≡_, refl, ap}
 use mathlib.Core.Logic.{_⊎_, inl, inr}
-use mathlib.Core.Bool.{Bool, true, false, not, cond, _&&_, _||_}
+use mathlib.Core.Bool.{Bool, true, false, cond}
 use mathlib.Core.List.{List, [], _∷_, List·Memᴰ, List·Memᴰ·not-nil, List·Memᴰ·cases-cons}
-use lib.Dec.{eqb, ltb}
+use lib.Dec.{ltb}
 use lib.ListN.{length, getD, length-map, length-take, length-drop}
-use borrow.Author.Tests.{ltb-false, eqb-true}
-use Rattle.masks.specs.Both.{both}
+use borrow.Author.Tests.{ltb-false}
 use Rattle.cells.specs.Cell.{bareCell}
 use Rattle.description.specs.declared.Instr.{Instr}
 use Rattle.ops.specs.declared.Acts.{Acts}
 use Rattle.ops.specs.declared.Acts.the-variants.{Still, SetsLocal, Yields, Calls, Returns, Resets, Stores}
 use Rattle.ops.specs.declared.Data.{Data}
 use Rattle.ops.specs.declared.Data.the-variants.{NoSlot, OneSlot, ManySlots}
-use Rattle.ops.specs.declared.Rule.{Rule}
-use Rattle.ops.specs.Ops.{noRule, rules, ruleOf}
-use Rattle.laws.specs.Join.{never}
-use Rattle.calls.specs.Calls.{call-is}
+use Rattle.ops.specs.Ops.{ruleOf}
 use Rattle.definition.specs.Module.{Module, Chunk, row}
 use Rattle.definition.specs.State.{State, Facts, Gift, nothing, arguments, returned, written}
 use Rattle.definition.specs.Data.{slotCount, slotsFrom, dataFault}
 use Rattle.definition.specs.Outputs.{Visit, instr}
 use Rattle.definition.specs.Wants.{isEntry}
 use Rattle.definition.specs.Wants.{returned as valueBelow}
-use Rattle.definition.specs.Leaves.{Known, visitOf, hopeless, nothingBelow, always, givesBy, gives}
+use Rattle.definition.specs.Leaves.{Known, visitOf, always, givesBy, gives}
 use Rattle.definition.specs.Start.{firstFacts}
+use Rattle.ruled.specs.Faults.{no-fault, always-parts}
+use Rattle.ruled.specs.Told.{call-is}
 use Rattle.consistent.specs.Consistent.{lineOf}
 use Rattle.consistent.specs.Absorb.{Declared}
 use Rattle.consistent.specs.Records.{Numbered, as-many, first-masks}
@@ -41,11 +39,6 @@ row-below i (suc k) n h = go (row-below (suc i) k n) (List·Memᴰ·cases-cons h
     go below (inl e) = omega arith
     go below (inr h) = let l = below h in omega arith
 
--- the first fault of a row of tests is none of them
-no-fault : (a : Bool) (n : ℕ) → _≡_ {A = ℕ} (cond a 13 n) 0 → (a ≡ false) × (n ≡ 0)
-no-fault true n h = absurd (omega arith)
-no-fault false n h = (refl, h)
-
 slots-below : (m : Module) (i : Instr) (d : Data) → dataFault m i d ≡ 0 → (n : ℕ) → List·Memᴰ n (slotsFrom i d) → n < m .slots
 unfolding dataFault slotsFrom slotCount row
 slots-below m i NoSlot h n k = absurd (List·Memᴰ·not-nil k)
@@ -55,10 +48,6 @@ slots-below m i OneSlot h n k =
 slots-below m i ManySlots h n k =
     let l = row-below (i .a) (i .b) n k in
     omega (arith, ltb-false (m .slots) (i .a + i .b) (no-fault (ltb (m .slots) (i .a + i .b)) _ h .0))
-
-no-data-fault : (v : Visit) (height : ℕ) → always v height ≡ 0 → dataFault (v .code) (instr v) (v .rule .slots) ≡ 0
-unfolding always
-no-data-fault v height h = no-fault (ltb height (instr v .taken) || (hopeless v (v .rule .asks) || nothingBelow v (v .rule .acts))) _ h .1
 
 -- ---- chunks
 number-below : (n : ℕ) (cs : List Chunk) → Numbered n cs → (c : Chunk) → List·Memᴰ c cs → c .number < n + length cs
@@ -114,4 +103,4 @@ placed k numbers calls f z c h l i s w =
     placed-by f (visitOf k c f (lineOf c i) s) (ruleOf (x .op) .acts)
     (λ u. rw (length-drop, z .rows (x .a)) (omega (arith, calls c h i (call-is (x .op) u))))
     (rw (as-many (k .code) f z, z .inputs .size) (signed-below (k .code) numbers c h l))
-    (λ n q. rw (z .masks .size, first-masks (k .code)) (slots-below (k .code) x (ruleOf (x .op) .slots) (no-data-fault (visitOf k c f (lineOf c i) s) (length (s .stack)) w) n q))
+    (λ n q. rw (z .masks .size, first-masks (k .code)) (slots-below (k .code) x (ruleOf (x .op) .slots) (always-parts (visitOf k c f (lineOf c i) s) (length (s .stack)) w .1) n q))

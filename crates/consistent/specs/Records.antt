@@ -28,7 +28,7 @@ use Rattle.definition.specs.Report.{Record, signaturesFrom, slotCells, recordFr
 use Rattle.consistent.specs.Rows.{wider-refl}
 use Rattle.consistent.specs.Absorb.{Declared}
 use Rattle.goodform.specs.Each.{suc-out, row-length}
-use Rattle.consistent.specs.Basics.{none≢some, some-inj}
+use Rattle.worklist.specs.Bind.{none≢some, some-inj}
 use Rattle.consistent.specs.Consistent.{factsOf, stateOf, Recorded}
 
 -- ---- chunks beside their states

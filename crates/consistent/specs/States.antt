@@ -5,10 +5,10 @@ use mathlib.Core.List.{List, [], _∷_}
 use lib.Dec.{eqb}
 use lib.ListN.{length}
 use borrow.Author.Tests.{not-false, eq-eqb, eqb-true}
-use Rattle.masks.specs.Both.{both}
+use Rattle.masks.specs.Both.{both, never}
 use Rattle.cells.specs.declared.Cell.{Cell}
 use Rattle.cells.specs.Cell.{joinCell, sameCell}
-use Rattle.laws.specs.Join.{Equals, never}
+use Rattle.laws.specs.Join.{Equals}
 use Rattle.laws.specs.Lists.{eachSame, each-equals}
 use Rattle.laws.specs.Cells.{cell-joins, cell-equals}
 use Rattle.definition.specs.Res.{ok}
@@ -16,7 +16,8 @@ use Rattle.definition.specs.Machine.{Joined}
 use Rattle.definition.specs.State.{State, joinCells, sameCells, joinStates, sameStates, joinIf, join}
 use Rattle.definition.specs.Outputs.{noCell}
 use Rattle.worklist.specs.Moves.{Takes, Laws}
-use Rattle.consistent.specs.Rows.{Grows, grows-of, over, over-grows, over-length, taken-at}
+use Rattle.goodform.specs.Each.{joinCells-length}
+use Rattle.consistent.specs.Rows.{Grows, grows-of, over, over-grows, taken-at}
 use Rattle.consistent.specs.Consistent.{TakesAll, TakesIn}
 
 pub cell-grows : Grows joinCell
@@ -50,9 +51,6 @@ cells-equals =
       sound = λ xs ys h. each-equals cell-equals .sound xs ys (sym (sames-each xs ys) ∙ h);
       whole = λ xs. sames-each xs xs ∙ each-equals cell-equals .whole xs;
     }
-
-pub cells-length : (xs ys : List Cell) → length (joinCells xs ys) ≡ length xs
-cells-length xs ys = rw (cells-over xs ys) (over-length joinCell xs ys)
 
 -- ---- states
 state-grows : Grows joinStates
@@ -103,7 +101,7 @@ fits-self x = rw (eq-eqb (length (x .stack)) (length (x .stack)) refl) (eq-eqb (
 
 fits-join : (x y z : State) → fits x z ≡ true → fits (joinStates x y) z ≡ true
 unfolding joinStates
-fits-join x y z e = rw (cells-length (x .stack) (y .stack), cells-length (x .locals) (y .locals)) e
+fits-join x y z e = rw (joinCells-length (x .stack) (y .stack), joinCells-length (x .locals) (y .locals)) e
 
 -- what was joined last is taken in, and so is what was taken in before
 takes-last : (s x : State) (r : Joined State) → join s x ≡ ok r → Takes join (r .value) x

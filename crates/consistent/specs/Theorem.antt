@@ -1,30 +1,31 @@
 -- Demand 3: every report that is decided is consistent beside its module.
-use Prim.Native.Nat.{ℕ, zero, suc, _<_, _≤_}
+use Prim.Native.Nat.{ℕ, zero, suc, _<_}
 use native.Mathlib.Omega.{arith}
 use native.Mathlib.Nat.{zero-add}
 use mathlib.Core.Path.{_≡_, refl, sym, _∙_, ap}
 use mathlib.Core.Logic.{_⊎_, inl, inr}
-use mathlib.Core.Bool.{Bool, true, false, cond}
+use mathlib.Core.Bool.{Bool, true, false}
 use mathlib.Core.Option.{Option, none, some}
 use mathlib.Core.List.{List, [], _∷_, List·Memᴰ, List·Memᴰ·not-nil, List·Memᴰ·cases-cons}
 use lib.ListN.{length, getD}
-use borrow.Author.Tests.{ltb-false}
 use Rattle.masks.specs.Names.{NONE}
 use Rattle.cells.specs.Cell.{joinCell}
 use Rattle.laws.specs.Masks.{union-joins}
-use Rattle.definition.specs.Outputs.{Visit, noCell}
-use Rattle.definition.specs.Ways.{after, leaving}
+use Rattle.definition.specs.Outputs.{noCell}
+use Rattle.definition.specs.Ways.{leaving}
 use Rattle.definition.specs.Machine.{Final, Effect}
 use Rattle.definition.specs.Machine.{accepted as ends}
 use Rattle.definition.specs.Module.{Module, Chunk, moduleOf}
 use Rattle.definition.specs.State.{State, Facts, Gift, nothing, arguments, returned, written, join}
-use Rattle.definition.specs.Leaves.{Known, visitOf, gives, heightFault, leaves}
+use Rattle.definition.specs.Leaves.{Known, visitOf, gives, leaves}
 use Rattle.definition.specs.Start.{initMask, admitted, firstFacts, knownOf}
 use Rattle.definition.specs.Report.{Report, Record, Branch, Inspection, reportOf, branchOf, inspectionOf}
 use Rattle.definition.specs.Call.{runOf, reported, decide}
 use Rattle.worklist.specs.Sweep.{Each, none-left, one-more}
 use Rattle.goodform.specs.Each.{row-at}
-use Rattle.consistent.specs.Basics.{none≢some}
+use Rattle.worklist.specs.Bind.{none≢some}
+use Rattle.ruled.specs.Faults.{low-enough}
+use Rattle.goodform.specs.Admitted.{Admitted, all-admitted}
 use Rattle.consistent.specs.Consistent.{Consistent, ConsistentChunk, Recorded, Reached, first, then, lineOf, GivenIn, Fine, DeclaredIn, Leaves, KnownBranch, FalseInspection, visitAt, factsOf, stateOf, TakesIn}
 use Rattle.consistent.specs.Shows.{Branches, Inspects, branch-shows, inspection-shows, shown-branch, shown-inspection}
 use Rattle.consistent.specs.Rows.{taken-at}
@@ -32,7 +33,7 @@ use Rattle.consistent.specs.States.{cell-grows, cells-grows, cells-over,
 use Rattle.consistent.specs.Absorb.{Fits, Declared}
 use Rattle.consistent.specs.Visits.{accepted, after-none, start-length, start-first, begun}
 use Rattle.consistent.specs.Records.{Beside, beside-mem, Numbered, numbered, in-chunks, of-chunks, facts-back, first-declared, first-masks, all-flows, signatures-numbered, record-of, said, unsaid}
-use Rattle.consistent.specs.Decided.{of-decide, Admitted, all-admitted}
+use Rattle.consistent.specs.Decided.{of-decide}
 use Rattle.consistent.specs.Range.{CallsFit, Placed, placed}
 use Rattle.consistent.specs.Calls.{calls-fit}
 use Rattle.consistent.specs.Sound.{Fixes, run-sound, run-declared, run-trails}
@@ -99,13 +100,6 @@ declared-in m f s =
       slots = s .masks .size ∙ first-masks m;
       masks = λ n l. s .masks .keeps n (initMask m n) (λ k. rw (first-mask m n l) (union-joins .idem (initMask m n))) (rw (s .masks .size, first-masks m) l);
     }
-
-low-height : (v : Visit) → heightFault v ≡ 0 → length (after v .stack) ≤ v .chunk .stack
-low-height v h = ltb-false (v .chunk .stack) (length (after v .stack)) (go _ h)
-  where
-    go : (b : Bool) → _≡_ {A = ℕ} (cond b 18 0) 0 → b ≡ false
-    go true h = absurd (omega arith)
-    go false h = refl
 
 -- ---- an accepted run of a module
 module _ (m : Module) (numbers : Numbered 0 (m .chunks)) (admits : admitted m (m .chunks) ≡ none) (calls : CallsFit m) (cap limit reply n : ℕ) (x : Final Facts State)
@@ -198,7 +192,7 @@ module _ (m : Module) (numbers : Numbered 0 (m .chunks)) (admits : admitted m (m
           (record {
             fits = w .fits;
             proven = w .proven;
-            height = low-height (visitOf K c (x .facts) (lineOf c i) s) (w .low);
+            height = low-enough (visitOf K c (x .facts) (lineOf c i) s) (w .low);
             inspected = after-none c st (fixed .quiet-after) i s (states i s r);
           })
 

@@ -13,7 +13,6 @@ use lib.Dec.{eqb}
 use borrow.Author.Tests.{eqb-true}
 use Rattle.masks.specs.declared.Mask.{Mask}
 use Rattle.masks.specs.Mask.{same as sameMask}
-use Rattle.laws.specs.Join.{never}
 use Rattle.definition.specs.Res.{Res, ok}
 use Rattle.definition.specs.Machine.{Effect}
 use Rattle.definition.specs.Module.{Chunk, Line}
@@ -24,7 +23,8 @@ use Rattle.definition.specs.Ways.{branch, narrowing, along, onWay, leavingBy, l
 use Rattle.definition.specs.Leaves.{Known, lineAt, noLine, visitOf, always, gives, unless, heightFault, visited, leaves}
 use Rattle.definition.specs.Start.{start, filled, stateFault, inspected, afterChunk}
 use Rattle.goodform.specs.Each.{suc-out}
-use Rattle.consistent.specs.Basics.{none≢some}
+use Rattle.masks.specs.Both.{never}
+use Rattle.worklist.specs.Bind.{none≢some}
 use Rattle.consistent.specs.Consistent.{lineOf}
 
 -- ---- the effect of an accepted visit

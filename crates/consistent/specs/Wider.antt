@@ -1,10 +1,10 @@
 -- A state that takes in another keeps the ways that validation found for it: a test's condition is never of no kind there.
-use Prim.Native.Nat.{ℕ, zero, suc, _+_, _-_, _<_, _≤_, _%_}
+use Prim.Native.Nat.{ℕ, suc, _+_, _-_, _<_, _≤_, _%_}
 use native.Mathlib.Omega.{arith}
 use native.Mathlib.Decide.{decLt}
 use mathlib.Core.Path.{_≡_, refl, sym, _∙_, ap}
 use mathlib.Core.Logic.{_⊎_, inl, inr, _≢_}
-use mathlib.Core.Bool.{Bool, true, false, not, cond, _&&_, true≢false}
+use mathlib.Core.Bool.{Bool, true, false, not, cond, true≢false}
 use mathlib.Core.Option.{Option, none, some}
 use mathlib.Core.List.{List, [], _∷_, List·Memᴰ, List·Memᴰ·head, List·Memᴰ·tail}
 use lib.Bits.{bitOr, bitAnd, or-mod, and-comm}
@@ -25,12 +25,9 @@ use Rattle.cells.specs.Cell.{joinCell}
 use Rattle.ops.specs.declared.Exit.{Exit}
 use Rattle.ops.specs.declared.Exit.the-variants.{Next, Stops, Jumps, Ifs, Breaks, Restarts}
 use Rattle.ops.specs.declared.Asks.{Asks}
-use Rattle.ops.specs.declared.Asks.the-variants.{Free, First, Both, Yielded, Returned, Every, Ordered, Same, Stored, PartOf, Never}
+use Rattle.ops.specs.declared.Asks.the-variants.{First}
 use Rattle.ops.specs.declared.Acts.{Acts}
-use Rattle.ops.specs.declared.Acts.the-variants.{Still, SetsLocal, Yields, Calls, Returns, Resets, Stores}
-use Rattle.ops.specs.declared.Rule.{Rule}
-use Rattle.ops.specs.Ops.{noRule, rules, ruleOf}
-use Rattle.laws.specs.Join.{never}
+use Rattle.ops.specs.declared.Acts.the-variants.{Still}
 use Rattle.laws.specs.Masks.{or-le-r, none-of-or, mask-equals}
 use Rattle.laws.specs.Flows.{predicate-equals}
 use Rattle.laws.specs.Cells.{cell-joins, cell-mask}
@@ -44,84 +41,10 @@ use Rattle.definition.specs.Wants.{require, wants, wantOf, atIndex, operandChec
 use Rattle.definition.specs.Ways.{branch, waysOf, receiverOn, narrowing, along, narrowed, setLocals, kept, afterBy, after, leaving}
 use Rattle.definition.specs.Leaves.{Known, visitOf, leaves}
 use Rattle.definition.specs.Report.{isTest}
-use Rattle.consistent.specs.Basics.{none≢some}
+use Rattle.worklist.specs.Bind.{none≢some}
+use Rattle.ruled.specs.Tests.{test-rule}
 use Rattle.consistent.specs.Consistent.{lineOf, TakesAll, TakesIn}
 use Rattle.consistent.specs.Visits.{accepted, branch-in, leaving-in, in-leaving}
-
--- ---- the rules of the tests: they ask for a kind of their operand, and set nothing
-isFirst : Asks → Bool
-isFirst (First m) = true
-isFirst Free = false
-isFirst (Both m n) = false
-isFirst Yielded = false
-isFirst Returned = false
-isFirst (Every m) = false
-isFirst Ordered = false
-isFirst (Same m) = false
-isFirst Stored = false
-isFirst (PartOf m) = false
-isFirst Never = false
-
-isStill : Acts → Bool
-isStill Still = true
-isStill SetsLocal = false
-isStill Yields = false
-isStill Calls = false
-isStill Returns = false
-isStill Resets = false
-isStill Stores = false
-
-first-is : (a : Asks) → isFirst a ≡ true → (m : Mask) × (a ≡ First m)
-unfolding isFirst
-first-is (First m) h = (m, refl)
-first-is Free h = never h
-first-is (Both m n) h = never h
-first-is Yielded h = never h
-first-is Returned h = never h
-first-is (Every m) h = never h
-first-is Ordered h = never h
-first-is (Same m) h = never h
-first-is Stored h = never h
-first-is (PartOf m) h = never h
-first-is Never h = never h
-
-still-is : (a : Acts) → isStill a ≡ true → a ≡ Still
-unfolding isStill
-still-is Still h = refl
-still-is SetsLocal h = never h
-still-is Yields h = never h
-still-is Calls h = never h
-still-is Returns h = never h
-still-is Resets h = never h
-still-is Stores h = never h
-
-asksOne : Rule → Bool
-asksOne r = cond (isTest (r .exit)) (isFirst (r .asks) && isStill (r .acts)) true
-
-allAsk : List Rule → Bool
-allAsk [] = true
-allAsk (r ∷ rs) = asksOne r && allAsk rs
-
-all-ask : allAsk rules ≡ true
-unfolding rules allAsk asksOne isTest isFirst isStill
-all-ask = refl
-
-ask-at : (rs : List Rule) (d : Rule) → allAsk rs ≡ true → asksOne d ≡ true → (n : ℕ) → asksOne (getD rs n d) ≡ true
-unfolding allAsk
-ask-at [] d h k n = k
-ask-at (r ∷ rs) d h k zero = both (asksOne r) (allAsk rs) h .0
-ask-at (r ∷ rs) d h k (suc n) = ask-at rs d (both (asksOne r) (allAsk rs) h .1) k n
-
-test-rule : (op : ℕ) → isTest (ruleOf op .exit) ≡ true → ((m : Mask) × (ruleOf op .asks ≡ First m)) × (ruleOf op .acts ≡ Still)
-unfolding ruleOf asksOne isTest
-test-rule op h =
-    let r = getD rules op noRule in
-    let (a, b) = both (isFirst (r .asks)) (isStill (r .acts)) (picked (isTest (r .exit)) _ h (ask-at rules noRule all-ask refl op)) in
-    (first-is (r .asks) a, still-is (r .acts) b)
-  where
-    picked : (a b : Bool) → a ≡ true → cond a b true ≡ true → b ≡ true
-    picked true b e h = h
-    picked false b e h = never e
 
 -- ---- a proven operand is of some kind
 no-kind : (allowed : Mask) → isProven (require (of 0) allowed) ≡ true → ⊥
@@ -305,7 +228,7 @@ module _ (k : Known) (c : Chunk) (f : Facts) (i : ℕ) (s was : State) (t : Take
   condition : isTest (v₀ .rule .exit) ≡ true → unfit v₀ ≡ 0 → Known′ (arg v 0 .mask) (arg v₀ 0 .mask)
   unfolding visitOf
   condition u h =
-      let (a, _) = test-rule (lineOf c i .instr .op) u in
+      let a = test-rule (lineOf c i .instr .op) u .asks in
       elim (test-some v₀ (a .0) (a .1) h) [
         | inl e ↦ inl (rw (e, top-empty (s .stack) (was .stack) (lineOf c i .instr .taken) (t .stack .long) e))
         | inr n ↦ inr n
@@ -314,7 +237,7 @@ module _ (k : Known) (c : Chunk) (f : Facts) (i : ℕ) (s was : State) (t : Take
   enums : isTest (v₀ .rule .exit) ≡ true → Enums (after v) (after v₀)
   unfolding visitOf after
   enums u r h =
-      let (_, e) = test-rule (lineOf c i .instr .op) u in
+      let e = test-rule (lineOf c i .instr .op) u .acts in
       let l : after v .locals ≡ s .locals = still-locals v _ e in
       let l₀ : after v₀ .locals ≡ was .locals = still-locals v₀ _ e in
       rw l (has-up _ _ ENUM (cell-mask _ _ (all-at (s .locals) (was .locals) (t .locals) r)) (rw l₀ at h))

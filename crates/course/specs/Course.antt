@@ -1,15 +1,14 @@
 -- The machine that a workspace and a run stand for, and what holds of them between two takings.
-use Prim.Native.Nat.{ℕ, zero, suc, _+_, _*_, _-_, _<_, _≤_}
+use Prim.Native.Nat.{ℕ, suc, _+_, _*_, _-_, _<_, _≤_}
 use mathlib.Core.Path.{_≡_}
-use mathlib.Core.Bool.{Bool, true, false, cond}
-use mathlib.Core.Option.{Option, none, some}
-use mathlib.Core.List.{List, [], _∷_}
+use mathlib.Core.Bool.{true, cond}
+use mathlib.Core.Option.{Option, none}
+use mathlib.Core.List.{List, []}
 use lib.ListN.{length, getD, drop}
-use Rattle.words.specs.Layout.{cellAt}
 use Rattle.ring.specs.declared.Queue.{Queue}
 use Rattle.ring.specs.Ring.{Ready, capOf, entryAt, queueOf}
 use Rattle.definition.specs.Machine.{Work, Seen, Machine, Final}
-use Rattle.definition.specs.Module.{Module, Chunk, row, moduleOf}
+use Rattle.definition.specs.Module.{Chunk, row, moduleOf}
 use Rattle.definition.specs.State.{State, Facts, Live}
 use Rattle.definition.specs.Leaves.{Known}
 use Rattle.definition.specs.Start.{admitted, firstFacts, knownOf}

@@ -2,4 +2,3 @@ pub mod Course
 pub mod Rows
 pub mod Stays
 pub mod Queues
-pub mod Admitted

@@ -1,19 +1,18 @@
 -- The whole call: answer, report buffer and workspace, for every description, workspace, buffer and limit.
-use Prim.Native.Nat.{ℕ, _+_, _-_}
-use mathlib.Core.Bool.{Bool, true, false, cond}
+use Prim.Native.Nat.{ℕ, _-_}
+use mathlib.Core.Bool.{cond}
 use mathlib.Core.Option.{Option, none, some}
-use mathlib.Core.List.{List, [], _∷_, _++_}
+use mathlib.Core.List.{List, _++_}
 use lib.Dec.{ltb, leb}
 use lib.ListN.{length, drop, replicate}
 use Rattle.answers.specs.declared.Refusal.{Refusal}
 use Rattle.answers.specs.declared.Answer.{Answer}
 use Rattle.answers.specs.declared.Answer.the-variants.{Accepted, Refused}
-use Rattle.cells.specs.declared.Cell.{Cell}
 use Rattle.definition.specs.declared.Form.{Form}
 use Rattle.definition.specs.declared.Form.the-variants.{Fine}
 use Rattle.definition.specs.declared.Form.the-variants.{Refused as Malformed}
-use Rattle.definition.specs.Machine.{Ran, accepted, refused, Final, check, refusal}
-use Rattle.definition.specs.Module.{Module, Chunk, moduleOf}
+use Rattle.definition.specs.Machine.{Ran, accepted, refused, check, refusal}
+use Rattle.definition.specs.Module.{Module, moduleOf}
 use Rattle.definition.specs.State.{State, Facts, join}
 use Rattle.definition.specs.Leaves.{Known, leaves, absorb, opened, closed, moved}
 use Rattle.definition.specs.Form.{formOf, nowhere}

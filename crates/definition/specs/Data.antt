@@ -1,6 +1,6 @@
 -- The slots of the data layout: `slot` and `data_width` of types.rs, and what a read or a write of several slots is.
-use Prim.Native.Nat.{ℕ, zero, suc, _+_, _-_, _%_}
-use mathlib.Core.Bool.{Bool, true, false, not, cond, _&&_, _||_}
+use Prim.Native.Nat.{ℕ, _+_, _%_}
+use mathlib.Core.Bool.{Bool, false, not, cond, _&&_, _||_}
 use mathlib.Core.List.{List, [], _∷_}
 use lib.Dec.{eqb, ltb, leb}
 use lib.ListN.{length, getD}
@@ -8,13 +8,13 @@ use Rattle.masks.specs.declared.Mask.{Mask}
 use Rattle.masks.specs.Mask.{scalar, body, kind, union, within}
 use Rattle.masks.specs.Names.{NONE, BODY, UNKNOWN, SCALARS, GUARDED}
 use Rattle.widths.specs.declared.Width.{Width}
-use Rattle.widths.specs.declared.Width.the-variants.{Unknown as Wide, Scalar, Body}
+use Rattle.widths.specs.declared.Width.the-variants.{Unknown as Wide}
 use Rattle.widths.specs.Width.{joinWidth, scalarWidth}
 use Rattle.extents.specs.declared.Extent.{Extent}
 use Rattle.extents.specs.Extent.{joinExtent, exactWidth}
 use Rattle.flows.specs.declared.Flow.{Flow}
 use Rattle.flows.specs.declared.Owned.{Owned}
-use Rattle.flows.specs.declared.Owned.the-variants.{No, Yes}
+use Rattle.flows.specs.declared.Owned.the-variants.{No}
 use Rattle.flows.specs.Flow.{joinFlow, newFlow, noFlow, absent}
 use Rattle.cells.specs.declared.Cell.{Cell}
 use Rattle.description.specs.declared.Instr.{Instr}

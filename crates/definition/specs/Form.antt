@@ -1,10 +1,10 @@
 -- The form of a description: refusals 1 to 4, in byte order, the lowest number of a field; then the two late looks; and W.
-use Prim.Native.Nat.{ℕ, zero, suc, _+_, _*_, _-_, _%_}
+use Prim.Native.Nat.{ℕ, zero, suc, _+_, _*_, _-_}
 use mathlib.Core.Bool.{Bool, true, false, not, cond, _&&_, _||_}
 use mathlib.Core.List.{List, [], _∷_}
 use lib.Dec.{eqb, ltb, leb}
 use lib.ListN.{length, getD}
-use Rattle.le.specs.Le.{at8, at16}
+use Rattle.le.specs.Le.{at8}
 use Rattle.answers.specs.declared.Refusal.{Refusal}
 use Rattle.widths.specs.declared.Shape.{Shape}
 use Rattle.description.specs.declared.Header.{Header}

@@ -1,7 +1,7 @@
 -- One visit: its refusals, the ways that leave it, and what it gives to the facts; and the facts that take it in.
 use Prim.Native.Nat.{ℕ, zero, suc, _-_}
 use mathlib.Core.Bool.{Bool, true, false, not, cond, _&&_, _||_}
-use mathlib.Core.Option.{Option, none, some}
+use mathlib.Core.Option.{none}
 use mathlib.Core.List.{List, [], _∷_, map}
 use lib.Dec.{eqb, ltb, leb}
 use lib.ListN.{length, getD, set, take, drop}
@@ -21,9 +21,9 @@ use Rattle.ops.specs.declared.Asks.the-variants.{Free, First, Both, Yielded, Re
 use Rattle.ops.specs.declared.Acts.{Acts}
 use Rattle.ops.specs.declared.Acts.the-variants.{Still, SetsLocal, Yields, Calls, Returns, Resets, Stores}
 use Rattle.ops.specs.Ops.{ruleOf}
-use Rattle.definition.specs.Res.{Res, ok, bad, bind}
+use Rattle.definition.specs.Res.{Res, ok, bad}
 use Rattle.definition.specs.Machine.{Effect}
-use Rattle.definition.specs.Module.{Module, Chunk, Line, Site}
+use Rattle.definition.specs.Module.{Module, Chunk, Line}
 use Rattle.definition.specs.State.{State, Facts, Live, Gift, nothing, arguments, returned, written, joinCells, sameCells}
 use Rattle.definition.specs.Data.{isBody, dataFault, slotsFrom}
 use Rattle.definition.specs.Outputs.{Visit, arg, instr, noCell}

@@ -1,6 +1,6 @@
 -- The description as values: what `Module` and the dialogue `Plan` are to types.rs.
-use Prim.Native.Nat.{ℕ, zero, suc, _+_, _*_, _/_, _^_}
-use mathlib.Core.Bool.{Bool, true, false, cond}
+use Prim.Native.Nat.{ℕ, zero, suc, _+_, _/_, _^_}
+use mathlib.Core.Bool.{Bool, cond}
 use mathlib.Core.Option.{Option, none, some}
 use mathlib.Core.List.{List, [], _∷_, map}
 use lib.Dec.{eqb, ltb}
@@ -9,9 +9,8 @@ use Rattle.masks.specs.declared.Mask.{Mask}
 use Rattle.masks.specs.Mask.{constant}
 use Rattle.widths.specs.declared.Shape.{Shape}
 use Rattle.description.specs.declared.Header.{Header}
-use Rattle.description.specs.declared.ChunkHead.{ChunkHead}
 use Rattle.description.specs.declared.Instr.{Instr}
-use Rattle.description.specs.Fields.{tagAt, nextAt, fieldsFrom, ofTag, shapeOf, headerOf, chunkOf, tagsAt, paramOf, paramsOf, resultOf, instrOf, hasSite, yieldedOf, replyOf}
+use Rattle.description.specs.Fields.{tagAt, fieldsFrom, ofTag, shapeOf, headerOf, chunkOf, tagsAt, paramOf, paramsOf, resultOf, instrOf, hasSite, yieldedOf, replyOf}
 
 -- a dialogue site: the shapes yielded and replied
 pub record Site : Type 0 where

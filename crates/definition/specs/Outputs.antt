@@ -1,18 +1,17 @@
 -- What an instruction makes of its operands: the outputs, and the local that it sets. The same in the rounds and in validation.
 use Prim.Native.Nat.{ℕ, zero, suc, _-_, _%_}
-use mathlib.Core.Bool.{Bool, true, false, not, cond, _&&_}
+use mathlib.Core.Bool.{Bool, true, false, cond, _&&_}
 use mathlib.Core.Option.{Option, none, some}
 use mathlib.Core.List.{List, [], _∷_}
 use lib.Dec.{eqb, ltb}
-use lib.ListN.{length, getD}
+use lib.ListN.{getD}
 use Rattle.masks.specs.declared.Mask.{Mask}
 use Rattle.masks.specs.Mask.{of, scalar, body, kind, union, common, has, same, oneKind, constant, immediate}
 use Rattle.masks.specs.Names.{NONE, FALSE, WORD, ENUM, TRUE, BOOL, UNKNOWN}
-use Rattle.widths.specs.declared.Width.the-variants.{Unknown as Wide, Scalar, Body}
+use Rattle.widths.specs.declared.Width.the-variants.{Body}
 use Rattle.widths.specs.declared.Shape.{Shape}
 use Rattle.widths.specs.Shape.{shapeMask, declaredWidth}
 use Rattle.extents.specs.declared.Extent.{Extent}
-use Rattle.flows.specs.declared.Flow.{Flow}
 use Rattle.flows.specs.declared.Owned.{Owned}
 use Rattle.flows.specs.declared.Owned.the-variants.{No, Yes}
 use Rattle.flows.specs.declared.Origin.{Origin}
@@ -30,12 +29,11 @@ use Rattle.ops.specs.declared.Others.{Others}
 use Rattle.ops.specs.declared.Others.the-variants.{Unknowns, Words, Checked, Copies, Tested, Status}
 use Rattle.ops.specs.declared.Acts.{Acts}
 use Rattle.ops.specs.declared.Acts.the-variants.{Still, SetsLocal, Yields, Calls, Returns, Resets, Stores}
-use Rattle.ops.specs.declared.Data.{Data}
 use Rattle.ops.specs.declared.Rule.{Rule}
 use Rattle.definition.specs.declared.Made.{Made}
 use Rattle.definition.specs.Module.{Module, Chunk, Line, Site}
 use Rattle.definition.specs.Module.{Native as NativeReturn}
-use Rattle.definition.specs.State.{State, Facts}
+use Rattle.definition.specs.State.{Facts}
 use Rattle.definition.specs.Data.{fresh, readSlots, slotsFrom}
 
 -- a visit: the instruction with its operands taken off, what is left below them, and the locals

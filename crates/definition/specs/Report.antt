@@ -1,10 +1,9 @@
 -- The report of an accepted run, as values and as bytes.
-use Prim.Native.Nat.{ℕ, zero, suc, _+_}
-use mathlib.Core.Bool.{Bool, true, false, not, cond, _||_}
+use Prim.Native.Nat.{ℕ, suc}
+use mathlib.Core.Bool.{Bool, true, false, not, cond}
 use mathlib.Core.Option.{Option, none, some}
-use mathlib.Core.List.{List, [], _∷_, _++_, map}
-use lib.Dec.{eqb}
-use lib.ListN.{length, getD, take}
+use mathlib.Core.List.{List, [], _∷_, _++_}
+use lib.ListN.{length, getD}
 use Rattle.le.specs.Le.{le16, le32}
 use Rattle.masks.specs.declared.Mask.{Mask}
 use Rattle.masks.specs.Mask.{has, same}
@@ -29,7 +28,7 @@ use Rattle.ops.specs.declared.Exit.{Exit}
 use Rattle.ops.specs.declared.Exit.the-variants.{Next, Stops, Jumps, Ifs, Breaks, Restarts}
 use Rattle.ops.specs.Ops.{ruleOf}
 use Rattle.definition.specs.Machine.{Final}
-use Rattle.definition.specs.Module.{Module, Chunk, Line}
+use Rattle.definition.specs.Module.{Chunk}
 use Rattle.definition.specs.State.{State, Facts}
 use Rattle.definition.specs.Outputs.{Visit, instr, outputs, noCell}
 use Rattle.definition.specs.Wants.{Guarded, guards}

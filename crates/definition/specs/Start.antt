@@ -12,7 +12,6 @@ use Rattle.widths.specs.declared.Shape.{Shape}
 use Rattle.widths.specs.Shape.{shapeMask}
 use Rattle.extents.specs.declared.Size.{Size}
 use Rattle.extents.specs.declared.Size.the-variants.{Nothing, Bytes}
-use Rattle.flows.specs.declared.Flow.{Flow}
 use Rattle.flows.specs.Flow.{noFlow, maximumOf, absent}
 use Rattle.extents.specs.Extent.{extentMinimum}
 use Rattle.cells.specs.declared.Cell.{Cell}

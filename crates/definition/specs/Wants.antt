@@ -1,6 +1,6 @@
 -- What validation asks of a visit: `require`, `same` and `numeric` of types.rs, the guards that follow, and the packed extent.
-use Prim.Native.Nat.{ℕ, zero, suc, _+_, _-_}
-use mathlib.Core.Bool.{Bool, true, false, not, cond, _&&_, _||_}
+use Prim.Native.Nat.{ℕ, suc, _+_, _-_}
+use mathlib.Core.Bool.{Bool, true, false, not, cond, _&&_}
 use mathlib.Core.Option.{Option, none, some}
 use mathlib.Core.List.{List, [], _∷_}
 use lib.Dec.{eqb, ltb}
@@ -11,7 +11,6 @@ use Rattle.masks.specs.Names.{NONE, WORD, NUMERIC, GUARDED}
 use Rattle.widths.specs.Shape.{shapeMask}
 use Rattle.extents.specs.declared.BodyExtent.{BodyExtent}
 use Rattle.extents.specs.declared.BodyExtent.the-variants.{Absent, Range, Unknown}
-use Rattle.extents.specs.declared.Extent.{Extent}
 use Rattle.cells.specs.declared.Cell.{Cell}
 use Rattle.ops.specs.declared.Makes.{Makes}
 use Rattle.ops.specs.declared.Makes.the-variants.{Anything, Constant, Immediate, Local, Operand, OperandMask, Reply, Result, Common, Kind, Negation, OneKind, Slots, Composite, Part, NativeValue}

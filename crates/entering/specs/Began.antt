@@ -33,10 +33,11 @@ use Rattle.rows.specs.Leave.{stateBy, stateIn}
 use Rattle.held.specs.Held.{factsIn, liveIn}
 use Rattle.course.specs.declared.Run.{Run}
 use Rattle.course.specs.Course.{statesIn, pastIn, machineIn, Low, LowBefore, Queued, Prepared, Between, RowsOnly}
-use Rattle.course.specs.Admitted.{chunk-admitted}
+use Rattle.goodform.specs.Admitted.{chunk-admitted}
 use Rattle.course.specs.Queues.{queued-push}
 use Rattle.course.specs.Rows.{row-set, stateAt, past-kept, low-before-kept}
 use Rattle.course.specs.Stays.{inputs-end, rows-live, rows-prepared}
+use Rattle.goodform.specs.Tests.{ne-pos}
 use Rattle.entering.specs.Rows.{RowsThere, Cleared, LocalsThere, Filled, firstCell}
 
 -- the machine where the chunk c is entered
@@ -94,10 +95,6 @@ row-none : {A : Type 0} (d : A) (i n : ℕ) → row (λ k. d) i n ≡ replicate 
 unfolding row
 row-none d i zero = refl
 row-none d i (suc n) = ap (λ (l : List _). d ∷ l) (row-none d (suc i) n)
-
-ne-pos : (i : ℕ) → (i ≡ 0 → ⊥) → 0 < i
-ne-pos zero d = absurd (d refl)
-ne-pos (suc i) d = omega arith
 
 row-first : (m : Module) (n : ℕ) → rowAt m n 0 ≡ rowsAt m n
 unfolding rowAt

@@ -1,10 +1,10 @@
 -- Body extents, as `BodyExtent` of types.rs: join, minimum, exact.
-use Prim.Native.Nat.{ℕ, min, max}
+use Prim.Native.Nat.{min, max}
 use mathlib.Core.Bool.{Bool, true, false, cond, not, _&&_}
 use mathlib.Core.List.{List, [], _∷_}
 use lib.Dec.{eqb}
 use Rattle.widths.specs.declared.Width.{Width}
-use Rattle.widths.specs.declared.Width.the-variants.{Unknown as Wide, Scalar, Body}
+use Rattle.widths.specs.declared.Width.the-variants.{Unknown as Wide, Body}
 use Rattle.extents.specs.declared.BodyExtent.{BodyExtent}
 use Rattle.extents.specs.declared.BodyExtent.the-variants.{Absent, Range, Unknown}
 use Rattle.extents.specs.declared.Extent.{Extent}

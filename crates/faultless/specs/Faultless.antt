@@ -1,17 +1,15 @@
 -- An accepted run has validated every state that it leaves: no recorded visit is refused, in whatever mode.
 use Prim.Native.Nat.{ℕ, zero, suc, _+_, _*_, _<_}
 use native.Mathlib.Omega.{arith}
-use mathlib.Core.Path.{_≡_, refl, sym, ap, ap₂, _∙_}
-use mathlib.Core.Bool.{Bool, true, false, cond}
-use mathlib.Core.Option.{Option, none, some}
+use mathlib.Core.Path.{_≡_, sym, ap, ap₂, _∙_}
+use mathlib.Core.Bool.{true, cond}
+use mathlib.Core.Option.{none, some}
 use mathlib.Core.List.{List, [], _∷_}
 use lib.ListN.{length, getD}
-use Rattle.cells.specs.declared.Cell.{Cell}
 use Rattle.words.specs.Rows.{cellsAt}
 use Rattle.words.specs.RowLaws.{cellsAt-length}
 use Rattle.definition.specs.Machine.{accepted}
-use Rattle.definition.specs.Module.{Chunk, moduleOf}
-use Rattle.definition.specs.State.{State}
+use Rattle.definition.specs.Module.{moduleOf}
 use Rattle.definition.specs.Leaves.{Known, always, visitOf, lineAt, noLine}
 use Rattle.definition.specs.Start.{firstFacts, knownOf}
 use Rattle.definition.specs.Call.{runOf}
@@ -20,11 +18,11 @@ use Rattle.goodform.specs.Each.{row-at}
 use Rattle.layout.specs.Layout.{rowAt}
 use Rattle.rows.specs.Leave.{stateBy, stateIn}
 use Rattle.held.specs.declared.Visit.{Visit as Look}
-use Rattle.held.specs.Held.{factsIn, knownIn, Looking, stateOf, visitIn}
+use Rattle.held.specs.Held.{factsIn, Looking, stateOf, visitIn}
 use Rattle.course.specs.Course.{statesIn, pastIn, finalIn, knownAs, Ended}
 use Rattle.course.specs.Rows.{states-at}
 use Rattle.worklist.specs.Sweep.{Each, none-left, one-more}
-use Rattle.consistent.specs.Sound.{Fixes, run-sound}
+use Rattle.consistent.specs.Sound.{run-sound}
 use Rattle.consistent.specs.Visits.{accepted as visit-accepted}
 use Rattle.measuring.specs.Reporting.{Faultless}
 

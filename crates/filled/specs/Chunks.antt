@@ -15,9 +15,10 @@ use Rattle.goodform.specs.Good.{noChunk, rowCells}
 use Rattle.layout.specs.Layout.{cellsBefore, numbersAt}
 use Rattle.layout.specs.Indexed.{bit}
 use Rattle.layout.specs.declared.Tables.{Tables}
+use Rattle.goodform.specs.Each.{row-length}
 use Rattle.filled.specs.declared.Work.{Work}
 use Rattle.filled.specs.Model.{numberWords, numbersOf, chunkWords, codeWords, codeWork, chunkWork, instrWork, tablesAfter, wordsAfter, wordsFrom}
-use Rattle.filled.specs.Room.{length-row, area-of, room-chunk}
+use Rattle.filled.specs.Room.{area-of, room-chunk}
 use Rattle.filled.specs.Keep.{number, keeps, outside, due}
 use Rattle.filled.specs.AtWork.{Ready, siteIn, kinds, ready, after-i, after-o, count, site, rows}
 
@@ -92,7 +93,7 @@ module _ (s : List ℕ) (p : ℕ) (ps : List ℕ) (t : Tables) (w : Work) (ws : 
         (chunkFrom s (w .seen) p (ltb (w .seen) (t .signatures)) (codeAfter s ps)) (record { at = p; code = codePlaces s ps }) (siteIn s ps)
     unfolding chunkFrom chunkWork numbersOf numberWords
     first-chunk =
-        let long = length-row (paramOf s p) 0 (signedParams s p (ltb (w .seen) (t .signatures))) in
+        let long = row-length (paramOf s p) 0 (signedParams s p (ltb (w .seen) (t .signatures))) in
         record {
           at = stays 0 (omega arith) (λ q. omega arith) (λ q. omega arith);
           rows = stays 1 (omega arith) (λ q. omega arith) (λ q. omega arith) ∙ rw long;

@@ -1,6 +1,6 @@
 -- What the walk still takes: the chunks that come, and their words, fit behind what it took.
-use Prim.Native.Nat.{ℕ, zero, suc, _+_, _*_, _<_, _≤_}
-use mathlib.Core.Path.{_≡_, refl, ap}
+use Prim.Native.Nat.{ℕ, _+_, _*_, _<_, _≤_}
+use mathlib.Core.Path.{_≡_, refl}
 use mathlib.Core.Bool.{Bool, true, false, cond}
 use mathlib.Core.List.{List, [], _∷_}
 use native.Mathlib.Omega.{arith}
@@ -10,6 +10,7 @@ use Rattle.description.specs.Fields.{tagAt, chunkOf}
 use Rattle.definition.specs.Module.{Chunk, Line, row, codeAfter, signedParams, chunkFrom, chunksFrom}
 use Rattle.layout.specs.Layout.{areaCells, numbersAt}
 use Rattle.layout.specs.declared.Tables.{Tables}
+use Rattle.goodform.specs.Each.{row-length}
 use Rattle.filled.specs.declared.Work.{Work}
 use Rattle.filled.specs.Model.{areas, numbersOf, chunkWork, instrWork, codeWork, tablesAfter}
 
@@ -30,16 +31,11 @@ pub record Room (s ps : List ℕ) (t : Tables) (w : Work) (n : ℕ) : Type 0 whe
   pub instrs : w .instrs ≤ w .free
   pub small : n < 4294967296
 
-pub length-row : {A : Type 0} (f : ℕ → A) (i n : ℕ) → length (row f i n) ≡ n
-unfolding row
-length-row f i zero = refl
-length-row f i (suc n) = ap suc (length-row f (suc i) n)
-
 -- the cells of a chunk whose field is at p
 pub area-of : (s : List ℕ) (k p : ℕ) (b : Bool) (ls : List Line)
     → areaCells (chunkFrom s k p b ls) ≡ signedParams s p b + 1 + length ls * (chunkOf s p .locals + chunkOf s p .stack + 6)
 unfolding areaCells chunkFrom
-area-of s k p b ls = rw length-row
+area-of s k p b ls = rw row-length
 
 module _ (s : List ℕ) (p : ℕ) (ps : List ℕ) (t : Tables) (w : Work) (n : ℕ) (r : Room s (p ∷ ps) t w n) where
   pub room-chunk : eqb (tagAt s p) 2 ≡ true → Room s ps (tablesAfter (tagAt s p) s p t) (chunkWork s p t w) n

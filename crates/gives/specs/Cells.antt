@@ -2,7 +2,7 @@
 use Prim.Native.Nat.{ℕ, _+_, _*_, _-_, _<_, _≤_}
 use native.Mathlib.Omega.{arith}
 use mathlib.Core.Path.{_≡_, refl, sym, ap, ap₂, _∙_}
-use mathlib.Core.Bool.{Bool, true, false, not, _&&_, _||_}
+use mathlib.Core.Bool.{Bool, false, not, _&&_, _||_, and-true}
 use mathlib.Core.List.{List, [], _∷_, _++_}
 use mathlib.Core.Logic.{inl, inr}
 use lib.ListN.{length, getD}
@@ -11,7 +11,7 @@ use Rattle.cells.specs.Cell.{joinCell, sameCell}
 use Rattle.words.specs.Layout.{cellAt}
 use Rattle.words.specs.Rows.{cellsAt}
 use Rattle.words.specs.RowLaws.{cellsAt-length, cellsAt-append, cellAt-outside, cellsAt-outside}
-use Rattle.definition.specs.Module.{Module, moduleOf}
+use Rattle.definition.specs.Module.{moduleOf}
 use Rattle.definition.specs.State.{arguments, returned, joinCells, sameCells}
 use Rattle.definition.specs.Outputs.{noCell}
 use Rattle.definition.specs.Leaves.{absorb}
@@ -22,6 +22,7 @@ use Rattle.layout.specs.Apart.{inputs-begin, result-begins, result-next}
 use Rattle.keep.specs.Arrive.{Arrived, arrive, moves}
 use Rattle.keep.specs.Laws.{sameCells-whole}
 use Rattle.held.specs.Held.{factsIn, liveIn}
+use Rattle.course.specs.Stays.{inputs-end}
 use Rattle.gives.specs.Lists.{places-same, places-joined, places-moved}
 use Rattle.gives.specs.Frames.{either, live-eq, InArea, area-only, area-masks, area-flows, area-writes, area-inputs, area-result}
 use Rattle.gives.specs.Taken.{Took}
@@ -63,10 +64,6 @@ module _ (to t p : ℕ) (xs : List Cell) (ws v : List ℕ) (b : Bool) (x : Arriv
       ∙ ap not (sym (ap₂ sameCells (split ws) joined ∙ same-front (cellsAt ws to t) xs (cellsAt ws (to + 16 * t) (p - t)) long))
 
 -- ---- one cell
-and-true : (b : Bool) → b && true ≡ b
-and-true true = refl
-and-true false = refl
-
 module _ (to : ℕ) (c : Cell) (ws v : List ℕ) (b : Bool) (x : Arrived false to 1 (c ∷ []) ws v b) where
   pub one-arrived : cellAt v to ≡ joinCell (cellAt ws to) c
   unfolding arrive joinCells cellsAt
@@ -77,10 +74,6 @@ module _ (to : ℕ) (c : Cell) (ws v : List ℕ) (b : Bool) (x : Arrived false t
   one-changed = x .changed ∙ ap not (and-true (sameCell (cellAt ws to) (joinCell (cellAt ws to) c)))
 
 -- ---- the facts take them in
-pub input-end : (m : Module) (n : ℕ) → inputAt m n 0 + 16 * length (chunkNo m n .params) ≡ resultAt m n
-unfolding inputAt resultAt
-input-end m n = omega arith
-
 pub signed : (s ws : List ℕ) → Indexed s ws → (k : ℕ) → k < moduleOf s .signatures → k < length (moduleOf s .chunks)
 signed s ws i k h = omega (arith, i .good .signatures)
 
@@ -88,7 +81,7 @@ signed s ws i k h = omega (arith, i .good .signatures)
 module _ (s ws v : List ℕ) (n t : ℕ) (xs : List Cell) (changed b : Bool) (i : Indexed s ws) (h : n < moduleOf s .signatures)
     (l : t ≤ length (chunkNo (moduleOf s) n .params)) (x : Arrived false (inputAt (moduleOf s) n 0) t xs ws v b) where
   before-result : inputAt (moduleOf s) n 0 + 16 * t ≤ resultAt (moduleOf s) n
-  before-result = omega (arith, l, input-end (moduleOf s) n)
+  before-result = omega (arith, l, inputs-end (moduleOf s) n)
 
   call-area : InArea s n ws v
   call-area =
@@ -152,7 +145,7 @@ module _ (s ws v : List ℕ) (n : ℕ) (c : Cell) (changed b : Bool) (i : Indexe
       places-same _ _ _
       (λ k o. either k n
       (λ d. area-inputs s ws v n return-area k (signed s ws i k o) d)
-      (λ e. rw e (cellsAt-outside (x .out) _ _ (inl (omega (arith, input-end (moduleOf s) n))))))
+      (λ e. rw e (cellsAt-outside (x .out) _ _ (inl (omega (arith, inputs-end (moduleOf s) n))))))
 
   return-results : factsIn s v .results ≡ absorb (moduleOf s) (liveIn s ws changed) (returned n c) .known .results
   unfolding factsIn liveIn absorb

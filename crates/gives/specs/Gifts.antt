@@ -1,31 +1,28 @@
 -- What the definition's visit gives, in the terms of the code; and what it needs for that is there.
-use Prim.Native.Nat.{ℕ, zero, suc, _+_, _-_, _<_, _≤_}
+use Prim.Native.Nat.{ℕ, _+_, _-_, _<_, _≤_}
 use native.Mathlib.Omega.{arith}
 use mathlib.Core.Path.{_≡_, refl, sym, ap, ap₂, _∙_}
-use mathlib.Core.Bool.{Bool, true, false, not, cond, _&&_, _||_}
-use mathlib.Core.List.{List, [], _∷_, map}
+use mathlib.Core.Bool.{Bool, true, false, cond, _||_}
+use mathlib.Core.List.{List, map}
 use mathlib.Core.Logic.{inl, inr}
-use lib.Dec.{eqb, ltb}
+use lib.Dec.{ltb}
 use lib.ListN.{length, getD}
-use borrow.Author.Tests.{ltb-false, eqb-true, eqb-false}
-use Rattle.masks.specs.Both.{both}
-use Rattle.laws.specs.Join.{never}
-use Rattle.calls.specs.Calls.{call-is}
+use borrow.Author.Tests.{ltb-false, eqb-false}
 use Rattle.cells.specs.declared.Cell.{Cell}
 use Rattle.cells.specs.Cell.{bareCell}
 use Rattle.description.specs.declared.Instr.{Instr}
 use Rattle.ops.specs.declared.Acts.{Acts}
-use Rattle.ops.specs.declared.Acts.the-variants.{Still, SetsLocal, Yields, Calls, Returns, Resets, Stores}
+use Rattle.ops.specs.declared.Acts.the-variants.{Calls, Returns, Stores}
 use Rattle.ops.specs.declared.Data.{Data}
 use Rattle.ops.specs.declared.Data.the-variants.{NoSlot, OneSlot, ManySlots}
 use Rattle.ops.specs.declared.Rule.{Rule}
-use Rattle.ops.specs.Ops.{noRule, rules, ruleOf}
+use Rattle.ops.specs.Ops.{ruleOf}
 use Rattle.words.specs.Layout.{cellAt}
 use Rattle.words.specs.Rows.{cellsAt}
 use Rattle.words.specs.RowLaws.{cellsAt-getD}
 use Rattle.definition.specs.Module.{Module, moduleOf}
 use Rattle.definition.specs.State.{Gift, nothing, arguments, returned, written}
-use Rattle.definition.specs.Form.{callee, fits, fitOf}
+use Rattle.definition.specs.Form.{callee}
 use Rattle.definition.specs.Data.{slotCount, slotsFrom, dataFault}
 use Rattle.definition.specs.Outputs.{Visit, noCell, arg, instr}
 use Rattle.definition.specs.Wants.{isEntry}
@@ -39,15 +36,13 @@ use Rattle.held.specs.declared.Visit.{Visit as Look}
 use Rattle.held.specs.Held.{Looking, argsIn, knownIn, visitIn, liveIn}
 use Rattle.held.specs.Visits.{args-are, below-is, below-long, row-there}
 use Rattle.course.specs.Course.{FactsOnly}
+use Rattle.course.specs.Stays.{inputs-end}
+use Rattle.ruled.specs.Told.{call-is, call-callee}
 use Rattle.gives.specs.Frames.{facts-refl}
 use Rattle.gives.specs.Taken.{Took}
-use Rattle.gives.specs.Cells.{input-end, signed}
+use Rattle.gives.specs.Cells.{signed}
 
 -- ---- only `Call` gives arguments
-call-callee : (op : ℕ) → op ≡ 30 → fitOf op .meaning ≡ callee
-unfolding fitOf fits
-call-callee op e = rw e
-
 -- ---- a visit that is never refused
 no-fault : (a b c : Bool) (n : ℕ) → _≡_ {A = ℕ} (cond (a || (b || c)) 13 n) 0 → (a ≡ false) × (c ≡ false) × (n ≡ 0)
 no-fault true b c n h = absurd (omega arith)
@@ -123,11 +118,11 @@ module _ (s ws : List ℕ) (v : Look) (x : Looking s ws v) where
     inputs-places l =
         record {
           source = omega (arith, row-there s ws v x, x .low, x .start);
-          target = omega (arith, input-end m a, callee-takes, result-in m a there, x .indexed .room);
+          target = omega (arith, inputs-end m a, callee-takes, result-in m a there, x .indexed .room);
           apart =
               by-order a (v .chunk)
-              (λ o. inl (omega (arith, x .row, input-end m a, result-next m a, rows-in-area m a, area-apart m a (v .chunk) o (omega (arith, x .chunk)), row-begins m (v .chunk) (v .at))))
-              (λ o. inl (omega (arith, x .row, input-end m (v .chunk), result-next m (v .chunk), rows-begin m (v .chunk) (v .at), ap (λ (k : ℕ). inputAt m k 0) o)))
+              (λ o. inl (omega (arith, x .row, inputs-end m a, result-next m a, rows-in-area m a, area-apart m a (v .chunk) o (omega (arith, x .chunk)), row-begins m (v .chunk) (v .at))))
+              (λ o. inl (omega (arith, x .row, inputs-end m (v .chunk), result-next m (v .chunk), rows-begin m (v .chunk) (v .at), ap (λ (k : ℕ). inputAt m k 0) o)))
               (λ o. inr (omega (arith, x .row, x .low, x .start, row-before m (v .chunk) (v .at) a (x .at) o (omega (arith, there)), inputs-begin m a 0)));
         }
       where

@@ -8,6 +8,8 @@ use mathlib.Core.Logic.{inl, inr}
 use mathlib.Core.List.{List, [], _∷_, map, List·Memᴰ, List·Memᴰ·not-nil, List·Memᴰ·cases-cons}
 use lib.ListN.{length, getD}
 use Rattle.definition.specs.Module.{row}
+use Rattle.definition.specs.State.{joinCells}
+use Rattle.cells.specs.declared.Cell.{Cell}
 
 pub suc-out : (i j : ℕ) → i + suc j ≡ suc i + j
 suc-out i j = omega arith
@@ -60,3 +62,9 @@ pub map-at : {A B : Type 0} (f : A → B) (l : List A) (i : ℕ) (c : A) (d : B)
 map-at f [] i c d h = absurd (omega arith)
 map-at f (x ∷ xs) zero c d h = refl
 map-at f (x ∷ xs) (suc i) c d h = map-at f xs i c d (omega arith)
+
+pub joinCells-length : (xs ys : List Cell) → length (joinCells xs ys) ≡ length xs
+unfolding joinCells
+joinCells-length [] ys = refl
+joinCells-length (x ∷ xs) [] = refl
+joinCells-length (x ∷ xs) (y ∷ ys) = ap suc (joinCells-length xs ys)

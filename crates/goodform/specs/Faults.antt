@@ -7,7 +7,7 @@ use mathlib.Core.List.{List}
 use lib.Dec.{eqb, ltb, leb}
 use borrow.Author.Tests.{eqb-true, eq-eqb, ltb-false, leb-false, not-false}
 use Rattle.le.specs.Le.{at8}
-use Rattle.masks.specs.Both.{both}
+use Rattle.masks.specs.Both.{both, or-left, or-right}
 use Rattle.description.specs.declared.Header.{Header}
 use Rattle.description.specs.declared.ChunkHead.{ChunkHead}
 use Rattle.description.specs.declared.Instr.{Instr}
@@ -15,7 +15,7 @@ use Rattle.description.specs.Fields.{shapeOf, tagsAt}
 use Rattle.definition.specs.declared.Scan.{Scan}
 use Rattle.definition.specs.Module.{signedParams}
 use Rattle.definition.specs.Form.{lowest, local, slots, callee, fitOf, shapeFine, tagsFine, chunkLen, signatureFine, senseless, tooLarge, misplaced, unfitting, headerFault, chunkFault, instrFault, siteFault, tableFault}
-use Rattle.goodform.specs.Tests.{or-left, or-right, and-off, none-of}
+use Rattle.goodform.specs.Tests.{and-off, none-of}
 
 pub record HeaderFine (n : ℕ) (h : Header) : Type 0 where
   pub len : n ≡ 15

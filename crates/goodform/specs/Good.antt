@@ -1,9 +1,8 @@
 -- What good form says of the module: W is document 01's sum, the numbers keep their largest values, every instruction fits, and the tables
 -- of natives and shared slots have fields of one size from their first on.
-use Prim.Native.Nat.{ℕ, zero, suc, _+_, _*_, _<_, _≤_}
+use Prim.Native.Nat.{ℕ, _+_, _*_, _<_, _≤_}
 use mathlib.Core.Path.{_≡_}
-use mathlib.Core.Bool.{Bool, true, false}
-use mathlib.Core.Option.{none}
+use mathlib.Core.Bool.{true, false}
 use mathlib.Core.List.{List, [], _∷_}
 use lib.ListN.{length, getD}
 use Rattle.widths.specs.declared.Shape.{Shape}

@@ -11,8 +11,9 @@ use Rattle.description.specs.Fields.{tagAt, ofTag, instrOf, hasSite, paramOf}
 use Rattle.definition.specs.Module.{Module, Line, lineOf, siteOf, signedParams, codeAfter, chunkFrom, chunksFrom}
 use Rattle.definition.specs.Start.{isSite}
 use Rattle.definition.specs.Form.{parameters, lateFault, lateLook}
+use Rattle.masks.specs.Both.{or-left, or-right}
 use Rattle.goodform.specs.Good.{noChunk, chunkNo}
-use Rattle.goodform.specs.Tests.{or-left, or-right, and-off}
+use Rattle.goodform.specs.Tests.{and-off}
 use Rattle.goodform.specs.Each.{All, row-length}
 
 -- every instruction field is looked at

@@ -13,3 +13,4 @@ pub mod Tables
 pub mod Late
 pub mod Ordered
 pub mod Theorem
+pub mod Admitted

@@ -1,12 +1,12 @@
 -- The fields of a description of good form stand in order.
 use Prim.Native.Nat.{ℕ, _<_, _≤_}
 use native.Mathlib.Omega.{arith}
-use mathlib.Core.Path.{_≡_, refl, sym}
+use mathlib.Core.Path.{_≡_, refl}
 use mathlib.Core.Bool.{Bool, true, false, cond, _&&_}
-use mathlib.Core.List.{List, [], _∷_}
+use mathlib.Core.List.{List}
 use lib.Dec.{eqb, ltb, leb}
-use borrow.Author.Tests.{eqb-true, eqb-false, eq-eqb, ne-eqb, lt-ltb, le-leb}
-use Rattle.description.specs.Fields.{tagAt, fieldsFrom}
+use borrow.Author.Tests.{eqb-true, eq-eqb, ne-eqb, lt-ltb, le-leb}
+use Rattle.description.specs.Fields.{fieldsFrom}
 use Rattle.definition.specs.declared.Scan.{Scan}
 use Rattle.goodform.specs.Order.{follows, ordered}
 use Rattle.goodform.specs.Walk.{Walk, end, chunk, instr, other, Starts}

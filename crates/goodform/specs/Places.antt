@@ -1,9 +1,9 @@
 -- Where the fields of a description stand: each chunk's, and those of its instructions.
-use Prim.Native.Nat.{ℕ, zero, suc}
-use mathlib.Core.Bool.{Bool, true, false, cond}
+use Prim.Native.Nat.{ℕ, suc}
+use mathlib.Core.Bool.{cond}
 use mathlib.Core.List.{List, [], _∷_, map}
 use lib.Dec.{eqb, ltb}
-use Rattle.description.specs.Fields.{tagAt, fieldsFrom, ofTag}
+use Rattle.description.specs.Fields.{tagAt, fieldsFrom}
 use Rattle.definition.specs.Module.{Chunk, lineOf, chunkFrom}
 
 pub record Placed : Type 0 where

@@ -13,8 +13,8 @@ use Rattle.definition.specs.declared.Scan.{Scan}
 use Rattle.definition.specs.declared.Form.the-variants.{Fine, Refused}
 use Rattle.definition.specs.Module.{Line, codeAfter, signedParams, chunkFrom, chunksFrom}
 use Rattle.definition.specs.Form.{nowhere, parameters, lateLook, afterLook, finished}
+use Rattle.masks.specs.Both.{never, or-right}
 use Rattle.goodform.specs.Good.{chunkCells, cellsIn}
-use Rattle.goodform.specs.Tests.{never, or-right}
 use Rattle.goodform.specs.Each.{row-length}
 use Rattle.goodform.specs.Walk.{Walk, end, chunk, instr, other}
 use Rattle.goodform.specs.Front.{code-chunk, code-instr, code-other, chunks-chunk, chunks-other}

@@ -1,19 +1,10 @@
 -- Tests that fail together, and the lowest of four faults.
 use native.Mathlib.Omega.{arith}
-use mathlib.Core.Path.{_≡_, refl, sym}
-use mathlib.Core.Bool.{Bool, true, false, _&&_, _||_, true≢false}
+use mathlib.Core.Path.{_≡_, refl}
+use mathlib.Core.Bool.{Bool, true, false, _&&_}
 use Rattle.definition.specs.Form.{lowest}
-
-pub never : {A : Type 0} → false ≡ true → A
-never h = absurd (true≢false (sym h))
-
-pub or-left : (a b : Bool) → (a || b) ≡ false → a ≡ false
-or-left true b e = e
-or-left false b e = refl
-
-pub or-right : (a b : Bool) → (a || b) ≡ false → b ≡ false
-or-right true b e = cc
-or-right false b e = e
+use Rattle.masks.specs.Both.{never}
+use Prim.Native.Nat.{ℕ, zero, suc, _<_}
 
 -- the first of two tests holds, so the second doesn't
 pub and-off : (a b : Bool) → (a && b) ≡ false → a ≡ true → b ≡ false
@@ -27,3 +18,7 @@ none-of false true c d e = absurd (omega arith)
 none-of false false true d e = absurd (omega arith)
 none-of false false false true e = absurd (omega arith)
 none-of false false false false e = (refl, refl, refl, refl)
+
+pub ne-pos : (n : ℕ) → (n ≡ 0 → ⊥) → 0 < n
+ne-pos zero d = absurd (d refl)
+ne-pos (suc n) d = omega arith

@@ -7,7 +7,7 @@ use mathlib.Core.List.{List, [], _∷_}
 use lib.Dec.{eqb, ltb, leb}
 use lib.ListN.{length}
 use borrow.Author.Tests.{eqb-true, ltb-true, ltb-false, leb-true}
-use Rattle.masks.specs.Both.{both}
+use Rattle.masks.specs.Both.{both, never}
 use Rattle.answers.specs.declared.Refusal.{Refusal}
 use Rattle.description.specs.Fields.{tagAt, lenAt, nextAt, fieldsF, fieldsFrom, headerOf, chunkOf, instrOf}
 use Rattle.definition.specs.declared.Scan.{Scan}
@@ -17,7 +17,6 @@ use Rattle.definition.specs.declared.Form.{Form}
 use Rattle.definition.specs.declared.Form.the-variants.{Fine, Refused}
 use Rattle.definition.specs.Module.{signedParams}
 use Rattle.definition.specs.Form.{nowhere, headerFault, chunkFault, instrFault, siteFault, tableFault, orStop, inField, headerStep, chunkStep, instrStep, siteStep, soFar, placed, tableStep, fieldStep, finished, onStep, scanFrom, unscanned, formOf}
-use Rattle.goodform.specs.Tests.{never}
 use Rattle.goodform.specs.Faults.{HeaderFine, header-fine, ChunkFine, chunk-fine, InstrFine, instr-fine, site-due, tableLen, tableMost, table-fine}
 
 -- ---- the scan after a field

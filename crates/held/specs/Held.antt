@@ -1,9 +1,8 @@
 -- What a workspace holds between two takings, as the definition's values: facts, states, and the visit of an instruction.
-use Prim.Native.Nat.{ℕ, zero, suc, _+_, _*_, _-_, _%_, _<_, _≤_}
+use Prim.Native.Nat.{ℕ, _+_, _*_, _-_, _%_, _<_, _≤_}
 use mathlib.Core.Path.{_≡_}
-use mathlib.Core.Bool.{Bool, true, false, cond}
-use mathlib.Core.Option.{Option, none, some}
-use mathlib.Core.List.{List, [], _∷_}
+use mathlib.Core.Bool.{Bool}
+use mathlib.Core.List.{List}
 use lib.ListN.{length, getD}
 use Rattle.masks.specs.declared.Mask.{Mask}
 use Rattle.masks.specs.Mask.{of}
@@ -11,7 +10,7 @@ use Rattle.cells.specs.declared.Cell.{Cell}
 use Rattle.ops.specs.Ops.{ruleOf}
 use Rattle.words.specs.Layout.{cellAt}
 use Rattle.words.specs.Rows.{cellsAt}
-use Rattle.definition.specs.Module.{Module, Chunk, row, moduleOf}
+use Rattle.definition.specs.Module.{row, moduleOf}
 use Rattle.definition.specs.State.{State, Facts, Live}
 use Rattle.definition.specs.Outputs.{Visit}
 use Rattle.definition.specs.Leaves.{Known, visitOf}

@@ -1,18 +1,14 @@
 -- What a visit that the code looks at says of the definition's visit: its operands, what is below them, its locals.
-use Prim.Native.Nat.{ℕ, zero, suc, _+_, _*_, _-_, _<_, _≤_}
+use Prim.Native.Nat.{ℕ, _+_, _*_, _-_, _≤_}
 use native.Mathlib.Omega.{arith}
-use mathlib.Core.Path.{_≡_, refl, sym, ap, _∙_}
-use mathlib.Core.List.{List, [], _∷_}
-use lib.ListN.{length, getD, take, drop}
-use Rattle.cells.specs.declared.Cell.{Cell}
+use mathlib.Core.Path.{_≡_, sym, ap, _∙_}
+use mathlib.Core.List.{List}
+use lib.ListN.{length, take, drop}
 use Rattle.words.specs.Rows.{cellsAt}
 use Rattle.words.specs.RowLaws.{cellsAt-length, cellsAt-take, cellsAt-drop}
 use Rattle.definition.specs.Module.{moduleOf}
-use Rattle.definition.specs.Outputs.{Visit}
 use Rattle.definition.specs.Leaves.{visitOf}
 use Rattle.goodform.specs.Good.{chunkNo, lineNo, rowCells}
-use Rattle.layout.specs.Layout.{rowAt}
-use Rattle.layout.specs.Indexed.{Indexed}
 use Rattle.layout.specs.Apart.{row-in}
 use Rattle.held.specs.declared.Visit.{Visit as Look}
 use Rattle.held.specs.Held.{Looking, Standing, argsIn, stateOf, visitIn}

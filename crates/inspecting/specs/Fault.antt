@@ -1,17 +1,16 @@
 -- What is looked for after a chunk was validated, as the code looks for it: by the instruction, in the words of its row.
 use Prim.Native.Nat.{ℕ, zero, suc, _+_, _*_, _-_, _<_, _≤_}
 use native.Mathlib.Omega.{arith}
-use native.Mathlib.Nat.{zero-add, add-zero}
 use native.Mathlib.Numerals.{add-one}
 use mathlib.Core.Path.{_≡_, refl, sym, ap, _∙_}
 use mathlib.Core.Bool.{Bool, true, false, not, cond, _&&_, _||_}
 use mathlib.Core.Option.{Option, none, some}
-use mathlib.Core.List.{List, [], _∷_}
-use borrow.Author.Tests.{eqb-true, eq-eqb, ne-eqb, ltb-true, ltb-false, le-ltb}
+use mathlib.Core.List.{List}
+use borrow.Author.Tests.{eqb-true, eq-eqb, ne-eqb, ltb-false, le-ltb}
 use lib.Dec.{eqb, ltb}
-use lib.ListN.{length, getD, List·getD-eq-default}
+use lib.ListN.{length, getD}
 use Rattle.answers.specs.declared.Refusal.{Refusal}
-use Rattle.masks.specs.Both.{both}
+use Rattle.masks.specs.Both.{never, or-left, or-right}
 use Rattle.masks.specs.Mask.{has, same}
 use Rattle.masks.specs.Names.{STRUCT, ENUM}
 use Rattle.extents.specs.Extent.{extentMinimum}
@@ -21,7 +20,6 @@ use Rattle.cells.specs.Cell.{made}
 use Rattle.description.specs.declared.Instr.{Instr}
 use Rattle.ops.specs.declared.Others.{Others}
 use Rattle.ops.specs.declared.Others.the-variants.{Unknowns, Words, Checked, Copies, Tested, Status}
-use Rattle.ops.specs.declared.Rule.{Rule}
 use Rattle.ops.specs.Ops.{rules, noRule, ruleOf}
 use Rattle.words.specs.Layout.{cellAt}
 use Rattle.words.specs.Rows.{cellsAt}
@@ -31,7 +29,6 @@ use Rattle.definition.specs.Outputs.{noCell}
 use Rattle.definition.specs.Leaves.{lineAt}
 use Rattle.definition.specs.Machine.{refusal}
 use Rattle.definition.specs.Start.{last, underEight, inspectionFault, stateFault, inspected, afterChunk}
-use Rattle.goodform.specs.Tests.{never, or-left, or-right}
 use Rattle.goodform.specs.Good.{chunkNo, lineNo}
 use Rattle.layout.specs.declared.Chunk.{Chunk as ChunkNumbers}
 use Rattle.layout.specs.Layout.{placeAt}
@@ -40,6 +37,7 @@ use Rattle.layout.specs.Read.{row-is, row-known}
 use Rattle.rows.specs.Leave.{stateBy, stateIn}
 use Rattle.course.specs.Course.{statesIn, Low}
 use Rattle.course.specs.Rows.{stateAt}
+use Rattle.ruled.specs.Table.{every-rule}
 
 -- ---- which instructions inspect: 40 for ENUM, 41 for STRUCT
 abbrev enumFault : Cell → ℕ
@@ -74,29 +72,12 @@ kindOf Status = 0
 abbrev kindAt : ℕ → ℕ
 kindAt op = cond (eqb op 40) 1 (cond (eqb op 41) 2 0)
 
-abbrev allKinds : ℕ → List Rule → Bool
-allKinds n [] = true
-allKinds n (r ∷ rs) = eqb (kindOf (r .others)) (kindAt n) && allKinds (suc n) rs
-
-kinds-at : (n : ℕ) (rs : List Rule) (k : ℕ) → allKinds n rs ≡ true → k < length rs → kindOf (getD rs k noRule .others) ≡ kindAt (k + n)
-kinds-at n [] k h l = absurd (omega arith)
-kinds-at n (r ∷ rs) zero h l =
-    let (a, b) = both (eqb (kindOf (r .others)) (kindAt n)) (allKinds (suc n) rs) h in
-    eqb-true _ _ a ∙ ap kindAt (sym (zero-add n))
-kinds-at n (r ∷ rs) (suc k) h l =
-    let (a, b) = both (eqb (kindOf (r .others)) (kindAt n)) (allKinds (suc n) rs) h in
-    let e : k + suc n ≡ suc k + n = omega arith in
-    kinds-at (suc n) rs k b (omega arith) ∙ ap kindAt e
-
 kind-is : (op : ℕ) → kindOf (ruleOf op .others) ≡ kindAt op
-unfolding ruleOf rules
-kind-is op = go (ltb op 66) refl
+unfolding rules
+kind-is op = eqb-true _ _ (every-rule (λ n r. eqb (kindOf (r .others)) (kindAt n)) past refl op)
   where
-    go : (b : Bool) → ltb op 66 ≡ b → kindOf (getD rules op noRule .others) ≡ kindAt op
-    go true e = kinds-at 0 rules op refl (ltb-true op 66 e) ∙ ap kindAt (add-zero op)
-    go false e =
-        let l = ltb-false op 66 e in
-        rw (List·getD-eq-default rules noRule {n = op} l, ne-eqb op 40 (λ q. omega arith), ne-eqb op 41 (λ q. omega arith))
+    past : (n : ℕ) → 66 ≤ n → eqb (kindOf (noRule .others)) (kindAt n) ≡ true
+    past n l = rw (ne-eqb n 40 (λ e. omega arith), ne-eqb n 41 (λ e. omega arith))
 
 abbrev byKind : ℕ → Cell → ℕ
 byKind zero c = 0

@@ -1,14 +1,14 @@
 -- Laws of cells that arrive: in two parts, one by one, and where nothing in them is touched.
 use Prim.Native.Nat.{ℕ, zero, suc, _+_, _*_, _-_, _<_, _≤_}
 use mathlib.Core.Path.{_≡_, refl, sym, ap, ap₂, _∙_}
-use mathlib.Core.Bool.{Bool, true, false, not, cond, _&&_, _||_}
+use mathlib.Core.Bool.{Bool, true, false, not, cond, _&&_, _||_, and-assoc, and-true}
 use mathlib.Core.Logic.{_⊎_, inl, inr}
 use mathlib.Core.List.{List, [], _∷_, _++_, map}
 use native.Mathlib.Omega.{arith}
 use borrow.Author.Tests.{lt-ltb}
 use lib.Dec.{eqb, ltb}
 use lib.ListN.{length, length-append}
-use Rattle.masks.specs.Both.{both}
+use Rattle.masks.specs.Both.{both, never}
 use Rattle.flows.specs.declared.Origin.{Origin}
 use Rattle.flows.specs.declared.Origin.the-variants.{Nowhere}
 use Rattle.flows.specs.declared.Predicate.{Predicate}
@@ -17,7 +17,6 @@ use Rattle.flows.specs.Flow.{originWithout, predicateWithout, invalidated}
 use Rattle.cells.specs.declared.Cell.{Cell}
 use Rattle.cells.specs.declared.JoinedCell.{JoinedCell}
 use Rattle.cells.specs.Cell.{joinCell, sameCell, invalidatedCell, narrowEnum}
-use Rattle.laws.specs.Join.{never}
 use Rattle.laws.specs.Cells.{cell-joins, cell-equals, cell-still}
 use Rattle.definition.specs.declared.Made.{Made}
 use Rattle.definition.specs.Module.{row}
@@ -28,6 +27,7 @@ use Rattle.words.specs.Layout.{cellAt, putCell, copyN, sameN, plainAt, Fit}
 use Rattle.words.specs.Laws.{cellAt-put, cellAt-copy, same-cells, plain-says}
 use Rattle.words.specs.Rows.{cellsAt, Outside}
 use Rattle.words.specs.RowLaws.{cellsAt-length, cellsAt-append, cellsAt-one, cellAt-outside, cellsAt-outside, outside-refl, outside-trans, outside-widen, outside-put, outside-copy}
+use Rattle.goodform.specs.Each.{joinCells-length}
 use Rattle.keep.specs.Arrive.{nowhere, keptCell, untouchedAt, arrive, moves, metCell, Places, Arrived}
 
 -- ---- cells joined and compared one by one
@@ -38,10 +38,6 @@ joinCells-append [] (x ∷ xs) bs ys h = absurd (omega arith)
 joinCells-append (a ∷ os) [] bs ys h = absurd (omega arith)
 joinCells-append (a ∷ os) (x ∷ xs) bs ys h = ap (λ (l : List Cell). joinCell a x ∷ l) (joinCells-append os xs bs ys (omega arith))
 
-and-assoc : (a b c : Bool) → a && (b && c) ≡ (a && b) && c
-and-assoc true b c = refl
-and-assoc false b c = refl
-
 pub sameCells-append : (os xs bs ys : List Cell) → length os ≡ length xs → sameCells (os ++ bs) (xs ++ ys) ≡ sameCells os xs && sameCells bs ys
 unfolding sameCells
 sameCells-append [] [] bs ys h = refl
@@ -49,13 +45,7 @@ sameCells-append [] (x ∷ xs) bs ys h = absurd (omega arith)
 sameCells-append (a ∷ os) [] bs ys h = absurd (omega arith)
 sameCells-append (a ∷ os) (x ∷ xs) bs ys h =
     ap (λ (b : Bool). sameCell a x && b) (sameCells-append os xs bs ys (omega arith))
-    ∙ and-assoc (sameCell a x) (sameCells os xs) (sameCells bs ys)
-
-pub joinCells-length : (xs ys : List Cell) → length (joinCells xs ys) ≡ length xs
-unfolding joinCells
-joinCells-length [] ys = refl
-joinCells-length (x ∷ xs) [] = refl
-joinCells-length (x ∷ xs) (y ∷ ys) = ap suc (joinCells-length xs ys)
+    ∙ sym (and-assoc (sameCell a x) (sameCells os xs) (sameCells bs ys))
 
 pub joinCells-idem : (xs : List Cell) → joinCells xs xs ≡ xs
 unfolding joinCells
@@ -147,10 +137,6 @@ arrived-more {fresh} {to} {m} {n} {xs} {ys} {w} {v} {u} {a} {b} p q =
     moved = ap (λ (l : List Cell). moves fresh l (xs ++ ys)) (cellsAt-append w to m n) ∙ moves-append fresh olds xs olds2 ys same
 
 -- ---- one cell
-and-true : (b : Bool) → b && true ≡ b
-and-true true = refl
-and-true false = refl
-
 pub arrived-one : (fresh : Bool) (to : ℕ) (c : Cell) (w v : List ℕ) (b : Bool) → cellAt v to ≡ metCell fresh (cellAt w to) c .cell → b ≡ metCell fresh (cellAt w to) c .changed → Outside to (to + 15) w v → Arrived fresh to 1 (c ∷ []) w v b
 unfolding cellsAt arrive joinCells moves sameCells
 arrived-one true to c w v b e q o =

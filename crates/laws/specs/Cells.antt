@@ -1,17 +1,15 @@
 -- The laws of widths and cells, and what a cell that takes in another says of their masks.
 use mathlib.Core.Path.{_≡_, refl, ap}
-use mathlib.Core.Bool.{Bool, true, false, _&&_}
-use lib.Dec.{eqb}
+use mathlib.Core.Bool.{true, false}
 use borrow.Author.Tests.{eq-eqb, eqb-true}
-use Rattle.masks.specs.Both.{both}
-use Rattle.masks.specs.declared.Mask.{Mask}
+use Rattle.masks.specs.Both.{both, never}
 use Rattle.masks.specs.Mask.{union, same, within}
 use Rattle.widths.specs.Width.{sameWidth, joinWidth}
 use Rattle.widths.specs.declared.Width.{Width}
 use Rattle.widths.specs.declared.Width.the-variants.{Unknown as Wide, Scalar, Body}
 use Rattle.cells.specs.Cell.{joinCell, sameCell, joinedCell}
 use Rattle.cells.specs.declared.Cell.{Cell}
-use Rattle.laws.specs.Join.{Joins, Equals, Takes, never, unchanged, still}
+use Rattle.laws.specs.Join.{Joins, Equals, Takes, unchanged, still}
 use Rattle.laws.specs.Flat.{flat-joins}
 use Rattle.laws.specs.Masks.{union-joins, mask-equals, takes-within}
 use Rattle.laws.specs.Flows.{flow-joins, flow-equals}

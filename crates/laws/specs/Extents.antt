@@ -1,17 +1,16 @@
 -- The laws of extents, and of four of them.
-use Prim.Native.Nat.{min, max}
 use mathlib.Core.Path.{_≡_, refl, sym, ap, ap₂, _∙_}
 use mathlib.Core.Bool.{Bool, true, false, _&&_}
 use mathlib.Core.List.{List, [], _∷_}
 use native.Mathlib.Omega.{arith}
 use lib.Dec.{eqb}
 use borrow.Author.Tests.{eq-eqb, eqb-true}
-use Rattle.masks.specs.Both.{both}
+use Rattle.masks.specs.Both.{both, never}
 use Rattle.extents.specs.Extent.{joinBody, sameBody, joinExtent, sameExtent, joinedExtent, joinBodies, sameBodies}
 use Rattle.extents.specs.declared.BodyExtent.{BodyExtent}
 use Rattle.extents.specs.declared.BodyExtent.the-variants.{Absent, Range, Unknown}
 use Rattle.extents.specs.declared.Extent.{Extent}
-use Rattle.laws.specs.Join.{Joins, Equals, Takes, never, unchanged, still}
+use Rattle.laws.specs.Join.{Joins, Equals, Takes, unchanged, still}
 use Rattle.laws.specs.Lists.{each, eachSame, each-joins, each-equals}
 
 body-idem : (x : BodyExtent) → joinBody x x ≡ x

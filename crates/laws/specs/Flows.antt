@@ -1,11 +1,10 @@
 -- The laws of flows and their parts.
-use Prim.Native.Nat.{ℕ}
 use mathlib.Core.Path.{_≡_, refl, ap, ap₂}
-use mathlib.Core.Bool.{Bool, true, false, _&&_}
+use mathlib.Core.Bool.{Bool, true, false}
 use lib.Dec.{eqb}
 use borrow.Author.Tests.{eq-eqb, eqb-true}
-use Rattle.masks.specs.Both.{both}
-use Rattle.extents.specs.Extent.{joinBodies, sameBodies}
+use Rattle.masks.specs.Both.{both, never}
+use Rattle.extents.specs.Extent.{sameBodies}
 use Rattle.flows.specs.Flow.{sameBool, joinOwned, sameOwned, joinOrigin, sameOrigin, joinPredicate, samePredicate, joinFlow, sameFlow, joinedFlow}
 use Rattle.flows.specs.declared.Owned.{Owned}
 use Rattle.flows.specs.declared.Owned.the-variants.{No, Yes}
@@ -14,7 +13,7 @@ use Rattle.flows.specs.declared.Origin.the-variants.{Nowhere, Local}
 use Rattle.flows.specs.declared.Predicate.{Predicate}
 use Rattle.flows.specs.declared.Predicate.the-variants.{Nothing as Untested, Tests}
 use Rattle.flows.specs.declared.Flow.{Flow}
-use Rattle.laws.specs.Join.{Joins, Equals, Takes, never, unchanged, still}
+use Rattle.laws.specs.Join.{Joins, Equals, Takes, unchanged, still}
 use Rattle.laws.specs.Flat.{flat-joins}
 use Rattle.laws.specs.Extents.{bodies-joins, bodies-equals}
 
@@ -67,7 +66,7 @@ pub origin-joins : Joins joinOrigin
 origin-joins = flat-joins sameOrigin Nowhere origin-equals
 
 -- ---- predicate
-bool-sound : (x y : Bool) → sameBool x y ≡ true → x ≡ y
+pub bool-sound : (x y : Bool) → sameBool x y ≡ true → x ≡ y
 bool-sound true true h = refl
 bool-sound true false h = never h
 bool-sound false true h = never h

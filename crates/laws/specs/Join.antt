@@ -1,6 +1,6 @@
 -- What is asked of a join and of a test of equality, and what follows of any of them: "x takes y in" is a preorder that further joins keep.
 use mathlib.Core.Path.{_≡_, sym, ap, _∙_}
-use mathlib.Core.Bool.{Bool, true, false, not, true≢false}
+use mathlib.Core.Bool.{Bool, true, false, not}
 use borrow.Author.Tests.{not-false}
 
 pub record Joins {A : Type 0} (j : A → A → A) : Type 0 where
@@ -12,9 +12,6 @@ pub record Joins {A : Type 0} (j : A → A → A) : Type 0 where
 pub record Equals {A : Type 0} (same : A → A → Bool) : Type 0 where
   pub sound : (x y : A) → same x y ≡ true → x ≡ y
   pub whole : (x : A) → same x x ≡ true
-
-pub never : {A : Type 0} → false ≡ true → A
-never h = absurd (true≢false (sym h))
 
 abbrev pub Takes : {A : Type 0} → (A → A → A) → A → A → Type 0
 Takes j x y = j x y ≡ x

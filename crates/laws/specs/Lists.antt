@@ -2,8 +2,8 @@
 use mathlib.Core.Path.{_≡_, refl, ap₂}
 use mathlib.Core.Bool.{Bool, true, false, _&&_}
 use mathlib.Core.List.{List, [], _∷_}
-use Rattle.masks.specs.Both.{both}
-use Rattle.laws.specs.Join.{Joins, Equals, never}
+use Rattle.masks.specs.Both.{both, never}
+use Rattle.laws.specs.Join.{Joins, Equals}
 
 -- up to the end of the shorter list
 abbrev pub each : {A : Type 0} → (A → A → A) → List A → List A → List A

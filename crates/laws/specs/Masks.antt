@@ -1,11 +1,10 @@
 -- Laws of the masks: those of `bitOr` that lib.Bits lacks, union as a join, and "within" as "taken in".
 use Prim.Native.Nat.{ℕ, _/_, _%_, _≤_, min, max}
-use mathlib.Core.Path.{_≡_, refl, sym, ap, _∙_}
-use mathlib.Core.Bool.{Bool, true, false}
+use mathlib.Core.Path.{_≡_, refl, ap}
+use mathlib.Core.Bool.{true}
 use native.Mathlib.Omega.{arith}
 use lib.Arith.{bin-ind}
 use lib.Bits.{bitAnd, bitOr, or-step, and-step, or-zero-l, and-zero-l, or-add-and, and-le-l, and-le-r, or-comm, and-comm, or-self}
-use lib.Dec.{eqb}
 use borrow.Author.Tests.{eq-eqb, eqb-true}
 use Rattle.masks.specs.declared.Mask.{Mask}
 use Rattle.masks.specs.Mask.{of, union, within, same}

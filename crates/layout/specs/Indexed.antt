@@ -1,17 +1,17 @@
 -- A workspace that holds the index of a description: what the code reads there is what the definition's parse has.
-use Prim.Native.Nat.{ℕ, zero, suc, _+_, _*_, _/_, _%_, _<_, _≤_}
+use Prim.Native.Nat.{ℕ, _+_, _*_, _/_, _%_, _<_, _≤_}
 use mathlib.Core.Path.{_≡_}
-use mathlib.Core.Bool.{Bool, true, false, not, cond}
-use mathlib.Core.List.{List, [], _∷_}
+use mathlib.Core.Bool.{Bool, false, not, cond}
+use mathlib.Core.List.{List}
 use lib.Dec.{eqb}
 use lib.ListN.{length, getD}
 use Rattle.masks.specs.declared.Mask.{Mask}
 use Rattle.flows.specs.Flow.{noFlow}
 use Rattle.widths.specs.declared.Width.the-variants.{Unknown as Wide}
 use Rattle.cells.specs.declared.Cell.{Cell}
-use Rattle.description.specs.Fields.{headerOf, fieldsFrom, ofTag}
+use Rattle.description.specs.Fields.{fieldsFrom, ofTag}
 use Rattle.words.specs.Layout.{cellAt}
-use Rattle.definition.specs.Module.{Module, Chunk, Native, moduleOf}
+use Rattle.definition.specs.Module.{Native, moduleOf}
 use Rattle.definition.specs.Data.{isBody}
 use Rattle.definition.specs.Leaves.{streams}
 use Rattle.definition.specs.Start.{initMask, hasSite}

@@ -174,6 +174,18 @@ module _ (s : List ℕ) (t : Tables) (e : t ≡ tablesOf s) where
   unfolding tablesOf
   slots-are = ap (λ (x : Tables). x .slots) e
 
+  pub signatures-are : t .signatures ≡ moduleOf s .signatures
+  unfolding tablesOf
+  signatures-are = ap (λ (x : Tables). x .signatures) e
+
+  pub entry-is : t .entry ≡ moduleOf s .entry
+  unfolding tablesOf
+  entry-is = ap (λ (x : Tables). x .entry) e
+
+  pub float-is : t .float ≡ moduleOf s .float
+  unfolding tablesOf
+  float-is = ap (λ (x : Tables). x .float) e
+
   pub shared-are : t .shared ≡ length (moduleOf s .shared)
   unfolding tablesOf
   shared-are = ap (λ (x : Tables). x .shared) e

@@ -15,10 +15,7 @@ use Rattle.layout.specs.Indexed.{tablesOf}
 use Rattle.held.specs.declared.Visit.{Visit as Look}
 use Rattle.held.specs.Held.{Looking, argsIn, factsIn, knownIn, visitIn}
 use Rattle.held.specs.Visits.{args-are}
-
-pub float-is : (s : List ℕ) (t : Tables) → t ≡ tablesOf s → t .float ≡ moduleOf s .float
-unfolding tablesOf
-float-is s t e = ap (λ (x : Tables). x .float) e
+use Rattle.layout.specs.Read.{float-is}
 
 module _ (s ws : List ℕ) (v : Look) where
   pub code-is : visitIn s ws v .code ≡ moduleOf s

@@ -1,6 +1,6 @@
 -- Masks of value kinds, as types.rs has them: `scalar`, `body`, `kind`, `operand_kind`, `constant`, and the mask of an immediate.
 use Prim.Native.Nat.{ℕ, _^_, _*_}
-use mathlib.Core.Bool.{Bool, true, false, cond, not, _&&_}
+use mathlib.Core.Bool.{Bool, cond, not, _&&_}
 use lib.Bits.{bitOr, bitAnd}
 use lib.Dec.{eqb, ltb}
 use lib.Count.{ones}

@@ -1,14 +1,11 @@
 -- Every cell that a visit makes has four extents, as those in the workspace have; so a cell is 49 bytes.
 use Prim.Native.Nat.{ℕ, zero, suc, _+_}
-use native.Mathlib.Omega.{arith}
-use mathlib.Core.Path.{_≡_, refl, sym, ap, _∙_}
+use mathlib.Core.Path.{_≡_, sym, _∙_}
 use mathlib.Core.Bool.{Bool, true, false, cond}
 use mathlib.Core.Option.{Option, none, some}
 use mathlib.Core.List.{List, [], _∷_}
 use lib.Dec.{eqb}
 use lib.ListN.{length}
-use Rattle.extents.specs.declared.Extent.{Extent}
-use Rattle.extents.specs.Extent.{joinBodies}
 use Rattle.flows.specs.declared.Flow.{Flow}
 use Rattle.flows.specs.Flow.{joinFlow, noFlow}
 use Rattle.cells.specs.declared.Cell.{Cell}
@@ -27,7 +24,7 @@ use Rattle.definition.specs.Leaves.{visitOf}
 use Rattle.definition.specs.Report.{cellBytes}
 use Rattle.carried.specs.All.{All, nil, cons, all-get}
 use Rattle.reading.specs.Cells.{cell-long}
-use Rattle.reading.specs.Kept.{flow-none, cell-made, cell-fresh, cell-none, cell-construction}
+use Rattle.reading.specs.Kept.{flow-none, cell-made, cell-fresh, cell-none, cell-construction, joined-long}
 use Rattle.held.specs.declared.Visit.{Visit as Look}
 use Rattle.held.specs.Held.{Looking, argsIn, factsIn, stateOf, visitIn}
 use Rattle.held.specs.Visits.{args-are}
@@ -66,17 +63,12 @@ pick : (b : Bool) (x y : Cell) → Four x → Four y → Four (cond b x y)
 pick true x y p q = p
 pick false x y p q = q
 
-joined : (xs ys : List Extent) → length xs ≡ length ys → length (joinBodies xs ys) ≡ length xs
-joined [] ys e = refl
-joined (x ∷ xs) [] e = absurd (omega arith)
-joined (x ∷ xs) (y ∷ ys) e = ap suc (joined xs ys (omega arith))
-
 four-flows : (f : Facts) (so : Flow) (ns : List ℕ) → All FourIn (f .flows) → FourIn so → FourIn (flowIn f so ns)
 unfolding flowIn joinFlow
 four-flows f so [] a h = h
 four-flows f so (n ∷ ns) a h =
     let w = all-get FourIn n (flow-none .four) a in
-    four-flows f _ ns a (joined (so .bodies) _ (h ∙ sym w) ∙ h)
+    four-flows f _ ns a (joined-long (so .bodies) _ (h ∙ sym w) ∙ h)
 
 four-read : (m : Module) (f : Facts) (n : ℕ) (ns : List ℕ) → All FourIn (f .flows) → Four (readSlots m f n ns)
 unfolding readSlots privateCell

@@ -17,7 +17,7 @@ use Rattle.layout.specs.declared.Tables.{Tables}
 use Rattle.layout.specs.declared.Chunk.{Chunk as ChunkNumbers}
 use Rattle.layout.specs.Layout.{rowAt}
 use Rattle.layout.specs.Indexed.{Indexed, tablesOf, chunkAt}
-use Rattle.layout.specs.Read.{Row, row-known, count-is, stack-is, locals-is}
+use Rattle.layout.specs.Read.{Row, row-known, count-is, stack-is, locals-is, entry-is}
 use Rattle.held.specs.declared.Visit.{Visit as Look}
 use Rattle.held.specs.Held.{Looking, knownIn, visitIn}
 use Rattle.course.specs.Course.{Ended, Low, LowBefore}
@@ -69,14 +69,6 @@ cond-most false n m h = omega arith
 pub few-recordable : (s ws : List ℕ) → Indexed s ws → (c : ℕ) → c < length (moduleOf s .chunks) → recordable s c ≤ 4096
 unfolding recordable
 few-recordable s ws x c h = cond-most (chunkNo (moduleOf s) c .reachable) _ 4096 (x .good .eachChunk c h .code)
-
-pub signatures-are : (s : List ℕ) (t : Tables) → t ≡ tablesOf s → t .signatures ≡ moduleOf s .signatures
-unfolding tablesOf
-signatures-are s t e = ap (λ (x : Tables). x .signatures) e
-
-pub entry-is : (s : List ℕ) (t : Tables) → t ≡ tablesOf s → t .entry ≡ moduleOf s .entry
-unfolding tablesOf
-entry-is s t e = ap (λ (x : Tables). x .entry) e
 
 module _ (s ws : List ℕ) (t : Tables) (f : Finished s ws t) (c : ℕ) (ch : ChunkNumbers) (i : ℕ) (h : Here s ws c ch i) where
   pub indexed : Indexed s ws

@@ -3,7 +3,7 @@ use Prim.Native.Nat.{ℕ, zero, suc, _+_, _*_}
 use native.Mathlib.Omega.{arith}
 use mathlib.Core.Path.{_≡_, refl, ap}
 use mathlib.Core.Option.{some}
-use mathlib.Core.List.{List, [], _∷_, _++_, append-nil}
+use mathlib.Core.List.{List, _++_, append-nil}
 use lib.ListN.{length, getD, length-append}
 use Rattle.cells.specs.declared.Cell.{Cell}
 use Rattle.description.specs.declared.Instr.{Instr}
@@ -12,20 +12,21 @@ use Rattle.words.specs.Rows.{cellsAt}
 use Rattle.le.specs.Le.{le16}
 use Rattle.definition.specs.Module.{row, moduleOf}
 use Rattle.definition.specs.Outputs.{instr, outputs, output}
-use Rattle.definition.specs.Wants.{Guarded, guards}
+use Rattle.definition.specs.Wants.{guards}
 use Rattle.definition.specs.Ways.{outputList}
 use Rattle.definition.specs.Leaves.{lineAt}
-use Rattle.definition.specs.Report.{Record, placed, recordFrom, recordOf, fromState, each, field, cellBytes, cellsBytes, outputsBytes, guardsBytes, countsBytes, recordBytes, signatureBytes, slotBytes}
+use Rattle.definition.specs.Report.{Record, placed, recordFrom, recordOf, fromState, each, cellBytes, cellsBytes, outputsBytes, guardsBytes, countsBytes, recordBytes, signatureBytes, slotBytes}
 use Rattle.goodform.specs.Good.{chunkNo, lineNo}
 use Rattle.layout.specs.Layout.{rowAt, inputAt, resultAt, slotAt}
 use Rattle.reading.specs.Has.{long16}
-use Rattle.reading.specs.Back.{recordIn}
+use Rattle.reading.specs.Back.{recordIn, guards-long}
 use Rattle.rows.specs.Leave.{stateBy, stateIn}
 use Rattle.held.specs.declared.Visit.{Visit as Look}
 use Rattle.held.specs.Held.{Looking, knownIn, stateOf, visitIn}
 use Rattle.course.specs.Course.{knownAs}
 use Rattle.course.specs.Rows.{stateAt}
 use Rattle.looking.specs.Parts.{ins-is}
+use Rattle.reading.specs.Walk.{field-long}
 use Rattle.measuring.specs.Four.{Four, four-at, four-long, looked-four}
 use Rattle.measuring.specs.Adds.{bareAt, signatureAt, privateAt, added, recordAt}
 
@@ -50,11 +51,6 @@ outputs-long f h p i (suc n) =
       outputs-long f h (suc p) (suc i) n,
     )
 
-pub guards-long : (gs : List Guarded) → length (guardsBytes gs) ≡ 4 * length gs
-unfolding guardsBytes le16
-guards-long [] = refl
-guards-long (g ∷ gs) = omega (arith, guards-long gs)
-
 -- how many outputs
 pub placed-many : (f : ℕ → Cell) (p i n : ℕ) → length (placed p (row f i n)) ≡ n
 unfolding placed row
@@ -62,10 +58,6 @@ placed-many f p i zero = refl
 placed-many f p i (suc n) = ap suc (placed-many f (suc p) (suc i) n)
 
 -- ---- the fields
-pub field-long : (tag : ℕ) (l : List ℕ) → length (field tag l) ≡ 3 + length l
-unfolding field le16
-field-long tag l = omega arith
-
 pub signature-long : (s ws : List ℕ) (n : ℕ) → length (signatureAt s ws n) ≡ 5 + 49 * (length (chunkNo (moduleOf s) n .params) + 1)
 unfolding signatureAt signatureBytes
 signature-long s ws n =

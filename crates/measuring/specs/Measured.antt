@@ -25,8 +25,9 @@ use Rattle.measuring.specs.Reporting.{reportIn}
 use Rattle.measuring.specs.Span.{span, cut, span-both, span-alike, span-each, span-cut}
 use Rattle.measuring.specs.Adds.{signatureAt, privateAt, added, recordAt, inspectionAt, branchAt, addedFor, recordable, chunkFor, chunksFor, report-added}
 use Rattle.telling.specs.Told.{falseIn, decidedIn, wayIn}
+use Rattle.reading.specs.Walk.{field-long}
 use Rattle.measuring.specs.Beside.{inspection-told, branch-told}
-use Rattle.measuring.specs.Long.{visitRecord, field-long, private-long, record-is, contents-long}
+use Rattle.measuring.specs.Long.{visitRecord, private-long, record-is, contents-long}
 use Rattle.measuring.specs.Here.{Finished, Here, Visits, numbers-here, row-of}
 
 -- all that the instruction i of the chunk n adds, and the chunk

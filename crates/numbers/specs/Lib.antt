@@ -1,5 +1,6 @@
 pub mod Only
 pub mod Forms
+pub mod Visits
 pub mod Runs
 pub mod Rules
 pub mod Left

@@ -50,10 +50,10 @@ module _ {C F R S G : Type 0} (join : S → S → Res (Joined S)) (cap : ℕ) (c
     (open′ : R → F) (view : F → R) (absorb : F → G → F) (loud : F → Bool) (close : F → R)
     (leaves : Bool → C → R → ℕ → S → Res (Effect S G))
     -- the numbers
-    (Only : ℕ → Type 0) (only-7 : Only 7) (only-8 : Only 8) (joins : (s x : S) → OfRes Only (join s x))
+    (Only : ℕ → Type 0) (only-8 : Only 8) (joins : (s x : S) → OfRes Only (join s x))
     (follows : (c : C) (st : List (Option S)) → OfPlace Only (after c st))
     (rule : (v : Bool) (c : C) (r : R) (i : ℕ) (s : S) → OfRes Only (leaves v c r i s)) where
-  enter-only : (v : Bool) (end : F → List (List (Option S)) → Where C F R S) → ((f : F) (past : List (List (Option S))) → OfWhere Only (end f past))
+  pub enter-only : (v : Bool) (end : F → List (List (Option S)) → Where C F R S) → ((f : F) (past : List (List (Option S))) → OfWhere Only (end f past))
       → (n : ℕ) (f : F) (past : List (List (Option S))) (cs : List C)
       → OfWhere Only (enter join cap chunks reachable start after open′ view absorb loud close leaves v end n f past cs)
   unfolding enter
@@ -88,26 +88,28 @@ module _ {C F R S G : Type 0} (join : S → S → Res (Joined S)) (cap : ℕ) (c
   seen-only m i (bad n) h = h
   seen-only m i (ok r) h = settled-only _ (r .work .queue)
 
-  takes-only : (m : Machine C F S) (q : List ℕ) → OfWhere Only (takes join cap chunks reachable start after open′ view absorb loud close leaves m q)
+  pub takes-only : (m : Machine C F S) (q : List ℕ) → OfWhere Only (takes join cap chunks reachable start after open′ view absorb loud close leaves m q)
   unfolding takes visit
   takes-only m [] = settle-only m (m .validating)
   takes-only m (i ∷ q) =
       seen-only m i _
       (visit-only Only only-8 join cap joins view _ _ (rule (m .validating) (m .chunk)) (m .facts) (m .states) q i (getD (m .states) i none))
 
-  next-only : (more : Machine C F S → Ran R S) → ((m : Machine C F S) → OfRan Only (more m)) → (steps : ℕ) (w : Where C F R S) → OfWhere Only w
-      → OfRan Only (onNext join cap chunks reachable start after open′ view absorb loud close leaves more steps w)
-  unfolding onNext
-  next-only more h steps (due m) o = h m
-  next-only more h steps (done x) o = tt
-  next-only more h steps (stop x) o = o
+  -- the limit too
+  module _ (only-7 : Only 7) where
+    next-only : (more : Machine C F S → Ran R S) → ((m : Machine C F S) → OfRan Only (more m)) → (steps : ℕ) (w : Where C F R S) → OfWhere Only w
+        → OfRan Only (onNext join cap chunks reachable start after open′ view absorb loud close leaves more steps w)
+    unfolding onNext
+    next-only more h steps (due m) o = h m
+    next-only more h steps (done x) o = tt
+    next-only more h steps (stop x) o = o
 
-  run-only : (left steps : ℕ) (m : Machine C F S) → OfRan Only (run join cap chunks reachable start after open′ view absorb loud close leaves left steps m)
-  unfolding run next
-  run-only zero steps m = only-7
-  run-only (suc left) steps m = next-only _ (λ n. run-only left (suc steps) n) (suc steps) _ (takes-only m (m .queue))
+    run-only : (left steps : ℕ) (m : Machine C F S) → OfRan Only (run join cap chunks reachable start after open′ view absorb loud close leaves left steps m)
+    unfolding run next
+    run-only zero steps m = only-7
+    run-only (suc left) steps m = next-only _ (λ n. run-only left (suc steps) n) (suc steps) _ (takes-only m (m .queue))
 
-  -- THEOREM
-  pub check-only : (limit : ℕ) (r : R) → OfRan Only (check join cap chunks reachable start after open′ view absorb loud close leaves limit r)
-  unfolding check begun finish
-  check-only limit r = next-only _ (λ m. run-only limit 0 m) 0 _ (enter-only false _ (λ f past. tt) 0 (open′ r) [] chunks)
+    -- THEOREM
+    pub check-only : (limit : ℕ) (r : R) → OfRan Only (check join cap chunks reachable start after open′ view absorb loud close leaves limit r)
+    unfolding check begun finish
+    check-only limit r = next-only _ (λ m. run-only limit 0 m) 0 _ (enter-only false _ (λ f past. tt) 0 (open′ r) [] chunks)

@@ -2,7 +2,6 @@
 use Prim.Native.Nat.{ℕ}
 use mathlib.Core.List.{List, [], _∷_}
 use lib.ListN.{getD}
-use Rattle.masks.specs.declared.Mask.{Mask}
 use Rattle.masks.specs.Names.{BYTE, WORD, FIXED, FLOAT, TUPLE, ARRAY, STRUCT, ENUM, BOOL, MIXED, EXACT, WHOLE, NUMERIC, FALLBACK, GUARDED}
 use Rattle.ops.specs.declared.Makes.{Makes}
 use Rattle.ops.specs.declared.Makes.the-variants.{Anything, Constant, Immediate, Local, Operand, OperandMask, Reply, Result, Common, Kind, Negation, OneKind, Slots, Composite, Part, NativeValue}

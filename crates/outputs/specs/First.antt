@@ -1,13 +1,12 @@
 -- The first output of a visit, from what the code has: a case for each of its arms.
-use Prim.Native.Nat.{ℕ, zero, suc, _+_, _-_, _%_, _<_, _≤_}
+use Prim.Native.Nat.{ℕ, zero, suc, _+_, _%_, _<_, _≤_}
 use native.Mathlib.Omega.{arith}
 use mathlib.Core.Path.{_≡_, refl, sym, ap, _∙_}
-use mathlib.Core.Bool.{Bool, true, false, cond, _||_}
+use mathlib.Core.Bool.{true}
 use mathlib.Core.Option.{none, some}
 use mathlib.Core.List.{List, [], _∷_}
-use lib.Dec.{ltb}
 use lib.ListN.{length, getD}
-use borrow.Author.Tests.{ltb-false, eq-eqb, ne-eqb}
+use borrow.Author.Tests.{eq-eqb, ne-eqb}
 use Rattle.masks.specs.declared.Mask.{Mask}
 use Rattle.masks.specs.Mask.{of, body, common, immediate}
 use Rattle.masks.specs.Names.{UNKNOWN}
@@ -18,29 +17,28 @@ use Rattle.cells.specs.Cell.{made}
 use Rattle.packing.specs.Packing.{construction}
 use Rattle.description.specs.declared.Instr.{Instr}
 use Rattle.description.specs.Fields.{replyOf}
-use Rattle.ops.specs.declared.Data.{Data}
-use Rattle.ops.specs.declared.Data.the-variants.{NoSlot, OneSlot, ManySlots}
 use Rattle.ops.specs.declared.Rule.{Rule}
 use Rattle.ops.specs.declared.Makes.the-variants.{Anything, Constant, Immediate, Local as NamedLocal, Operand, OperandMask, Reply, Result, Common, Kind, Negation, OneKind, Slots, Composite, Part, NativeValue}
 use Rattle.words.specs.Layout.{cellAt}
 use Rattle.definition.specs.declared.Made.{Made}
-use Rattle.definition.specs.Module.{Module, Native, row, moduleOf}
-use Rattle.definition.specs.Data.{slotCount, slotsFrom, dataFault, readSlots}
-use Rattle.definition.specs.Outputs.{Visit, noCell, instr, value, commonKinds, bitsMask, negation, withPredicate, withOrigin, constantCell, fieldCell, nativeCell, at, replyShape, constructedExtent, compositeCell, firstOutput, outputs}
-use Rattle.definition.specs.Leaves.{hopeless, nothingBelow, always}
+use Rattle.definition.specs.Module.{Native, row, moduleOf}
+use Rattle.definition.specs.Data.{slotCount, slotsFrom, readSlots}
+use Rattle.definition.specs.Outputs.{noCell, value, commonKinds, bitsMask, negation, withPredicate, withOrigin, constantCell, fieldCell, nativeCell, at, replyShape, constructedExtent, compositeCell, firstOutput, outputs}
+use Rattle.definition.specs.Leaves.{always}
 use Rattle.layout.specs.declared.Chunk.{Chunk as ChunkNumbers}
 use Rattle.layout.specs.declared.Tables.{Tables}
 use Rattle.layout.specs.Layout.{resultAt, localAt}
 use Rattle.layout.specs.Indexed.{tablesOf, chunkAt, noNative}
-use Rattle.layout.specs.Read.{locals-is, slots-are, natives-are}
+use Rattle.layout.specs.Read.{locals-is, slots-are, natives-are, float-is}
 use Rattle.held.specs.declared.Visit.{Visit as Look}
 use Rattle.held.specs.Held.{Looking, argsIn, factsIn, visitIn}
 use Rattle.held.specs.Visits.{args-are}
 use Rattle.making.specs.Making.{nativeBy, native-by}
 use Rattle.made.specs.Made.{secondBy, restBy, outputs-by}
 use Rattle.made.specs.Made.{first-local as first-named}
-use Rattle.outputs.specs.Ruled.{namesSlots, makes-slots}
-use Rattle.looking.specs.Parts.{float-is, code-is, facts-are, ins-is, rule-is}
+use Rattle.looking.specs.Parts.{code-is, facts-are, ins-is, rule-is}
+use Rattle.ruled.specs.Told.{namesSlots, makes-slots}
+use Rattle.ruled.specs.Faults.{always-parts, named-end}
 use Rattle.outputs.specs.Parts.{named-in, callee-made, reply-made, result-is, local-there}
 
 -- ---- a native of the table, and one past it
@@ -70,24 +68,6 @@ module _ (s : List ℕ) (t : Tables) (e : t ≡ tablesOf s) (n : ℕ) where
       rw (native-past (moduleOf s .natives) n l, float-is s t e)
 
 -- ---- slots that no fault refuses are there
-no-fault : (a : Bool) (n : ℕ) → _≡_ {A = ℕ} (cond a 13 n) 0 → (a ≡ false) × (n ≡ 0)
-no-fault true n h = absurd (omega arith)
-no-fault false n h = (refl, h)
-
-pub data-fine : (v : Visit) (height : ℕ) → always v height ≡ 0 → dataFault (v .code) (instr v) (v .rule .slots) ≡ 0
-unfolding always
-data-fine v height h =
-    no-fault (ltb height (instr v .taken) || (hopeless v (v .rule .asks) || nothingBelow v (v .rule .acts))) _ h .1
-
-slots-end : (m : ℕ) (k : ℕ) (n : ℕ) → _≡_ {A = ℕ} (cond (ltb m k) 13 n) 0 → k ≤ m
-slots-end m k n h = ltb-false m k (no-fault (ltb m k) n h .0)
-
-named-end : (m : Module) (i : Instr) (d : Data) → namesSlots d ≡ true → dataFault m i d ≡ 0 → i .a + slotCount i d ≤ m .slots
-unfolding dataFault slotCount
-named-end m i NoSlot n h = let z : _≡_ {A = ℕ} 0 1 = cc in absurd (omega arith)
-named-end m i OneSlot n h = slots-end _ _ _ h
-named-end m i ManySlots n h = slots-end _ _ _ h
-
 module _ (s ws : List ℕ) (v : Look) (x : Looking s ws v) (t : Tables) (e : t ≡ tablesOf s) where
   float-there : visitIn s ws v .code .float ≡ t .float
   float-there = rw (code-is s ws v) (sym (float-is s t e))
@@ -176,7 +156,7 @@ module _ (s ws : List ℕ) (v : Look) (x : Looking s ws v) (t : Tables) (e : t �
   -- ---- slots
   pub slots-there : v .rule .makes ≡ Slots → always (visitIn s ws v) (v .height) ≡ 0 → v .ins .a + slotCount (v .ins) (v .rule .slots) ≤ t .slots
   slots-there m h =
-      let f = rw (code-is s ws v, ← ins-is s ws v x, ← rule-is s ws v x) at (data-fine (visitIn s ws v) (v .height) h) in
+      let f = rw (code-is s ws v, ← ins-is s ws v x, ← rule-is s ws v x) at (always-parts (visitIn s ws v) (v .height) h .1) in
       omega (arith, slots-are s t e, named-end (moduleOf s) (v .ins) (v .rule .slots) named f)
     where
       named : namesSlots (v .rule .slots) ≡ true

@@ -29,7 +29,7 @@ use Rattle.layout.specs.Apart.{local-in}
 use Rattle.layout.specs.Read.{field-small, stack-is, locals-is, site-is}
 use Rattle.held.specs.declared.Visit.{Visit as Look}
 use Rattle.held.specs.Held.{Looking, knownIn, factsIn, stateOf, visitIn}
-use Rattle.outputs.specs.Ruled.{makes-local, makes-reply, makes-result, sets-local, yields, calls}
+use Rattle.ruled.specs.Told.{makes-local, makes-reply, makes-result, sets-local, yields, call-is, call-callee}
 
 -- ---- the instruction's meaning
 local-meant : (op : ℕ) → op ≡ 1 → fitOf op .meaning ≡ local
@@ -39,10 +39,6 @@ local-meant op e = rw e
 set-meant : (op : ℕ) → op ≡ 2 → fitOf op .meaning ≡ local
 unfolding fitOf fits
 set-meant op e = rw e
-
-call-meant : (op : ℕ) → op ≡ 30 → fitOf op .meaning ≡ callee
-unfolding fitOf fits
-call-meant op e = rw e
 
 -- a site that is there
 reply-there : (s : List ℕ) (p : ℕ) → isSite (siteOf s p) ≡ true → replyCell (siteOf s p) ≡ replyShape (replyOf s p)
@@ -79,7 +75,7 @@ module _ (s ws : List ℕ) (v : Look) (x : Looking s ws v) where
       omega (arith, same-a, line-good .local (set-meant _ (sym op-is ∙ o)))
 
   callee-there : v .ins .op ≡ 30 → v .ins .a < moduleOf s .signatures
-  callee-there o = omega (arith, same-a, line-good .callee (call-meant _ (sym op-is ∙ o)))
+  callee-there o = omega (arith, same-a, line-good .callee (call-callee _ (sym op-is ∙ o)))
 
   -- a callee is one of the chunks
   pub callee-in : v .ins .a < moduleOf s .signatures → v .ins .a < length (moduleOf s .chunks)
@@ -89,7 +85,7 @@ module _ (s ws : List ℕ) (v : Look) (x : Looking s ws v) where
   callee-made e = callee-there (makes-result (v .ins .op) (ap (λ (r : Rule). r .makes) (sym (x .rule)) ∙ e))
 
   pub callee-called : v .rule .acts ≡ Calls → v .ins .a < moduleOf s .signatures
-  callee-called e = callee-there (calls (v .ins .op) (ap (λ (r : Rule). r .acts) (sym (x .rule)) ∙ e))
+  callee-called e = callee-there (call-is (v .ins .op) (ap (λ (r : Rule). r .acts) (sym (x .rule)) ∙ e))
 
   site-replies : v .ins .op ≡ 32 → replyShape (replyOf s (v .field)) ≡ replyCell (visitIn s ws v .line .site)
   unfolding visitIn visitOf

@@ -1,6 +1,5 @@
 -- The mask of a composite kind has its lowest bit at 8 to 11.
 use Prim.Native.Nat.{ℕ, zero, suc, _≤_, _<_}
-use mathlib.Core.Path.{_≡_, refl}
 use native.Mathlib.Omega.{arith}
 use lib.Count.{trailingZeros}
 use lib.Dec.{lit<, lit≤}

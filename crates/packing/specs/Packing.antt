@@ -1,10 +1,10 @@
 -- `packed_extent` of types.rs, the float size and the handle size both left open, and the extent of a construction.
-use Prim.Native.Nat.{ℕ, _+_, _-_, _^_, min, max}
-use mathlib.Core.Bool.{Bool, true, false, cond, not, _&&_, _||_}
+use Prim.Native.Nat.{ℕ, _+_, _-_, min, max}
+use mathlib.Core.Bool.{Bool, cond, not, _&&_, _||_}
 use mathlib.Core.List.{List, [], _∷_}
 use lib.Dec.{eqb, ltb}
 use lib.Count.{trailingZeros}
-use lib.ListN.{getD, set}
+use lib.ListN.{set}
 use Rattle.masks.specs.declared.Mask.{Mask}
 use Rattle.masks.specs.Mask.{of, body, kind, has}
 use Rattle.masks.specs.Mask.{within as inside}

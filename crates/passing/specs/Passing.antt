@@ -1,17 +1,17 @@
 -- What passes along the ways of a visit, read off its row, and what the machine makes of it.
-use Prim.Native.Nat.{ℕ, zero, suc, _+_, _*_, _≤_}
+use Prim.Native.Nat.{ℕ, _+_, _*_, _≤_}
 use mathlib.Core.Path.{_≡_}
-use mathlib.Core.Bool.{Bool, true, false, cond}
+use mathlib.Core.Bool.{false, cond}
 use mathlib.Core.Option.{Option, none, some}
-use mathlib.Core.List.{List, [], _∷_, _++_}
-use lib.ListN.{length, getD}
+use mathlib.Core.List.{List, [], _∷_}
+use lib.ListN.{getD}
 use Rattle.masks.specs.Mask.{has}
 use Rattle.masks.specs.Names.{ENUM}
 use Rattle.cells.specs.declared.Cell.{Cell}
 use Rattle.words.specs.Rows.{cellsAt}
 use Rattle.ring.specs.declared.Queue.{Queue}
-use Rattle.definition.specs.Res.{Res, ok, bad}
-use Rattle.definition.specs.Machine.{Work, puts}
+use Rattle.definition.specs.Res.{ok, bad}
+use Rattle.definition.specs.Machine.{puts}
 use Rattle.definition.specs.State.{State, join}
 use Rattle.definition.specs.Outputs.{noCell}
 use Rattle.definition.specs.Ways.{waysOf, narrowing, onWay}

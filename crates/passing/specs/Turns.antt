@@ -34,6 +34,7 @@ use Rattle.course.specs.Course.{statesIn, roomIn, workIn, Low, Queued}
 use Rattle.course.specs.Rows.{states-length, rows-only-refl}
 use Rattle.ways.specs.declared.Narrows.{Narrows}
 use Rattle.ways.specs.Ways.{receiver}
+use Rattle.masks.specs.Both.{neither}
 use Rattle.passing.specs.declared.Went.{Went}
 use Rattle.passing.specs.declared.Went.the-variants.{On}
 use Rattle.passing.specs.Passing.{Leaves, leavesWith, alongIn, condition, passes, Passed}
@@ -49,10 +50,6 @@ stands s ws t ch v l q (a, (b, (c, (d, (e, f))))) = record { looking = a; tables
 pub given : (s ws : List ℕ) (t : Tables) (ch : Chunk) (v : Visit) (l : Leaving) (q : Queue) → Stands s ws t ch v l q
     → (Looking s ws v × ((t ≡ tablesOf s) × ((ch ≡ chunkAt s ws (v .chunk)) × (Low s ws (v .chunk) × (Queued s ws (v .chunk) q × Leaves ch v l)))))
 given s ws t ch v l q x = (x .looking, (x .tables, (x .chunk, (x .low, (x .queued, x .leaves)))))
-
-neither : (a b : Bool) → (a || b) ≡ false → (a ≡ false) × (b ≡ false)
-neither true b e = let z : _≡_ {A = ℕ} 0 1 = cc in absurd (omega arith)
-neither false b e = (refl, e)
 
 module _ (s ws : List ℕ) (t : Tables) (ch : Chunk) (v : Visit) (l : Leaving) (q : Queue) (x : Stands s ws t ch v l q) where
   size-eq : rowWords ch ≡ 16 * rowCells (chunkNo (moduleOf s) (v .chunk))

@@ -2,11 +2,11 @@
 use Prim.Native.Nat.{ℕ, _+_, _<_, _≤_}
 use native.Mathlib.Omega.{arith}
 use mathlib.Core.Path.{_≡_, refl, sym, ap, _∙_}
-use mathlib.Core.Bool.{Bool, true, false, cond, _||_, true≢false}
+use mathlib.Core.Bool.{Bool, true, false, cond}
 use mathlib.Core.List.{List}
 use lib.Dec.{eqb, ltb}
 use lib.ListN.{length}
-use borrow.Author.Tests.{ltb-false, eqb-false}
+use borrow.Author.Tests.{eqb-false}
 use Rattle.masks.specs.declared.Mask.{Mask}
 use Rattle.masks.specs.Mask.{common, oneKind}
 use Rattle.masks.specs.Names.{NONE}
@@ -30,8 +30,10 @@ use Rattle.held.specs.declared.Visit.{Visit as Look}
 use Rattle.held.specs.Held.{visitIn}
 use Rattle.held.specs.Visits.{below-long}
 use Rattle.looking.specs.Parts.{code-is, ins-is, rule-is}
+use Rattle.masks.specs.Both.{neither}
+use Rattle.ruled.specs.Told.{namesSlots, asks-returned, asks-stored}
+use Rattle.ruled.specs.Faults.{always-parts, named-end}
 use Rattle.proving.specs.Proving.{Asking}
-use Rattle.proving.specs.Ruled.{namesSlots, asks-returned, asks-stored}
 
 -- ---- what an ask says of the rule: 1 for the value below, 2 for what is written
 abbrev classOf : Ask → ℕ
@@ -103,31 +105,12 @@ wants-below v (PartOf k) h = absurd (omega (arith, sym (part-class (ltb 1 (instr
 wants-below v NotProven h = absurd (omega arith)
 
 -- ---- what is not refused
-chosen : (b : Bool) (n : ℕ) → cond b 13 n ≡ 0 → (b ≡ false) × (n ≡ 0)
-chosen true n h = absurd (omega arith)
-chosen false n h = (refl, h)
-
-neither : (a b : Bool) → a || b ≡ false → (a ≡ false) × (b ≡ false)
-neither true b h = absurd (true≢false h)
-neither false b h = (refl, h)
-
-slots-room : (m : Module) (i : Instr) (d : Data) → namesSlots d ≡ true → dataFault m i d ≡ 0 → i .a + slotCount i d ≤ m .slots
-unfolding dataFault slotCount
-slots-room m i NoSlot n h = absurd (true≢false (sym n))
-slots-room m i OneSlot n h = ltb-false (m .slots) (i .a + 1) (chosen (ltb (m .slots) (i .a + 1)) _ h .0)
-slots-room m i ManySlots n h = ltb-false (m .slots) (i .a + i .b) (chosen (ltb (m .slots) (i .a + i .b)) _ h .0)
-
 module _ (v : Visit) (height : ℕ) (f : always v height ≡ 0) where
-  parts : ((ltb height (instr v .taken) || (hopeless v (v .rule .asks) || nothingBelow v (v .rule .acts))) ≡ false)
-      × (dataFault (v .code) (instr v) (v .rule .slots) ≡ 0)
-  unfolding always
-  parts = chosen (ltb height (instr v .taken) || (hopeless v (v .rule .asks) || nothingBelow v (v .rule .acts))) _ f
-
   returns-some : v .rule .acts ≡ Returns → 0 < length (v .below)
   unfolding nothingBelow
   returns-some e =
       let a : nothingBelow v (v .rule .acts) ≡ false =
-      neither (hopeless v (v .rule .asks)) (nothingBelow v (v .rule .acts)) (neither (ltb height (instr v .taken)) _ (parts .0) .1) .1 in
+      neither (hopeless v (v .rule .asks)) (nothingBelow v (v .rule .acts)) (neither (ltb height (instr v .taken)) _ (always-parts v height f .0) .1) .1 in
       let b : eqb (length (v .below)) 0 ≡ false = rw e at a in
       let n = eqb-false (length (v .below)) 0 b in
       omega arith
@@ -151,8 +134,8 @@ module _ (s ws : List ℕ) (v : Look) (w : Want) (a : Asking s ws v w) where
       let x = a .looking in
       let n = asks-stored (v .ins .op) (ap (λ (u : Rule). u .asks) (sym (x .rule)) ∙ wants-stored _ (v .rule .asks) (sym asks-as ∙ e)) in
       let k : namesSlots (v .rule .slots) ≡ true = ap (λ (u : Rule). namesSlots (u .slots)) (x .rule) ∙ n in
-      let d = parts (visitIn s ws v) (v .height) (a .fine) .1 in
-      slots-room (moduleOf s) (v .ins) (v .rule .slots) k
+      let d = always-parts (visitIn s ws v) (v .height) (a .fine) .1 in
+      named-end (moduleOf s) (v .ins) (v .rule .slots) k
       (ap (λ (u : Rule). dataFault (moduleOf s) (v .ins) (u .slots)) (rule-is s ws v x)
       ∙ ap (λ (i : Instr). dataFault (moduleOf s) i (visitIn s ws v .rule .slots)) (ins-is s ws v x)
       ∙ ap (λ (m : Module). dataFault m (instr (visitIn s ws v)) (visitIn s ws v .rule .slots)) (sym (code-is s ws v)) ∙ d)

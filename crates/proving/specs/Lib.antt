@@ -1,5 +1,4 @@
 pub mod Proving
-pub mod Ruled
 pub mod Fine
 pub mod Wanted
 pub mod Checked

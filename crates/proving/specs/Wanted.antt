@@ -28,8 +28,8 @@ use Rattle.held.specs.declared.Visit.{Visit as Look}
 use Rattle.held.specs.Held.{Looking, argsIn, visitIn}
 use Rattle.held.specs.Visits.{args-are}
 use Rattle.looking.specs.Parts.{ins-is, rule-is, operand-is}
+use Rattle.ruled.specs.Told.{asks-yielded}
 use Rattle.proving.specs.Proving.{declaredBy}
-use Rattle.proving.specs.Ruled.{asks-yielded}
 
 -- a site that is there
 yielded-there : (s : List ℕ) (p : ℕ) → isSite (siteOf s p) ≡ true → shapeMask (yieldedOf s p) ≡ yieldedMask (siteOf s p)

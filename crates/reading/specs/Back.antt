@@ -1,22 +1,21 @@
 -- A report read back from its bytes is the report.
-use Prim.Native.Nat.{ℕ, zero, suc, _+_, _*_, _-_, _/_, _≤_}
+use Prim.Native.Nat.{ℕ, zero, suc, _+_, _*_, _-_}
 use native.Mathlib.Omega.{arith}
 use mathlib.Core.Path.{_≡_, refl, sym, _∙_, ap, ap₂}
-use mathlib.Core.Bool.{Bool, true, false, cond}
 use mathlib.Core.List.{List, [], _∷_, _++_, map, append-nil}
-use lib.Dec.{eqb}
 use lib.ListN.{length, length-append}
-use borrow.Author.Tests.{eq-eqb, ne-eqb}
-use Rattle.le.specs.Le.{at8, at16, at32, le16, le32}
+use borrow.Author.Tests.{ne-eqb}
+use Rattle.le.specs.Le.{at16, at32, le16, le32}
 use Rattle.masks.specs.Mask.{of}
 use Rattle.cells.specs.declared.Cell.{Cell}
 use Rattle.description.specs.Fields.{fieldsFrom, ofTag, tagAt}
 use Rattle.definition.specs.Wants.{Guarded}
-use Rattle.definition.specs.Report.{Report, Record, Output, Signature, Inspection, Branch, cellBytes, cellsBytes, outputsBytes, guardsBytes, countsBytes, field, each, signatureBytes, slotBytes, recordBytes, inspectionBytes, branchBytes, reportBytes}
-use Rattle.reading.specs.Has.{Has, has-left, has-right, has-head, has-tail, has-at, has-same, has-all, read16, read32, long16, long32}
+use Rattle.definition.specs.Report.{Report, Record, Output, Signature, Inspection, Branch, cellBytes, cellsBytes, outputsBytes, guardsBytes, countsBytes, field, signatureBytes, slotBytes, recordBytes, inspectionBytes, branchBytes, reportBytes}
+use Rattle.reading.specs.Has.{Has, has-left, has-right, has-head, has-at, has-same, has-all, read16, read32, long16, long32}
 use Rattle.carried.specs.All.{All, nil, cons}
+use Rattle.description.specs.Walk.{fields-turn, fields-end}
 use Rattle.reading.specs.Cells.{Proper, cell-long, cell-read, cells-long, cells-read}
-use Rattle.reading.specs.Walk.{fields-turn, fields-end, tags-append, field-long, contents-at, length-at, tag-at, next-at, group, places, group-walk, group-own, group-other, group-read}
+use Rattle.reading.specs.Walk.{tags-append, field-long, contents-at, length-at, tag-at, next-at, group, places, group-walk, group-own, group-other, group-read}
 use Rattle.reading.specs.Read.{rowAt, readCell, readCells, inputsIn, readSignature, readOutput, readGuard, readRecord, readInspection, readBranch, readFrom, readReport}
 
 -- ---- what a report can say
@@ -63,7 +62,7 @@ outputs-read {s} {q} (cons {x = o} {xs = os} p ps) h =
     (output-same o _ _ (read16 _ (has-left (le16 (o .slot)) rest h)) (cell-read (o .cell) p (has-left (cellBytes (o .cell)) (outputsBytes os) h₁)))
     (outputs-read ps h₂)
 
-guards-long : (gs : List Guarded) → length (guardsBytes gs) ≡ 4 * length gs
+pub guards-long : (gs : List Guarded) → length (guardsBytes gs) ≡ 4 * length gs
 unfolding guardsBytes
 guards-long [] = refl
 guards-long (g ∷ gs) =

@@ -1,13 +1,12 @@
 -- The rules make proper cells of proper cells.
-use Prim.Native.Nat.{ℕ, zero, suc, _+_, _-_, _%_, _<_}
+use Prim.Native.Nat.{ℕ, suc, _<_}
 use native.Mathlib.Omega.{arith}
 use mathlib.Core.Path.{_≡_, refl, sym, _∙_, ap}
-use mathlib.Core.Bool.{Bool, true, false, not, cond, _&&_, _||_}
-use mathlib.Core.Option.{Option, none, some}
-use mathlib.Core.List.{List, [], _∷_, _++_, map}
-use lib.Dec.{eqb, ltb, leb}
-use lib.ListN.{length, getD, set, length-set}
-use borrow.Author.Tests.{lt-ltb, ltb-true}
+use mathlib.Core.Bool.{Bool, true, false, cond}
+use mathlib.Core.List.{List, [], _∷_}
+use lib.Dec.{eqb, ltb}
+use lib.ListN.{length, length-set}
+use borrow.Author.Tests.{ltb-true}
 use Rattle.masks.specs.declared.Mask.{Mask}
 use Rattle.widths.specs.declared.Width.{Width}
 use Rattle.extents.specs.declared.Extent.{Extent}
@@ -20,13 +19,12 @@ use Rattle.flows.specs.declared.Predicate.{Predicate}
 use Rattle.flows.specs.declared.Predicate.the-variants.{Nothing as Untested, Tests}
 use Rattle.flows.specs.Flow.{sameOrigin, samePredicate, joinFlow, noFlow, newFlow, originWithout, predicateWithout, invalidated, bare, negated}
 use Rattle.cells.specs.declared.Cell.{Cell}
-use Rattle.cells.specs.Cell.{made, declared, joinCell, invalidatedCell, bareCell, narrowEnum, unitCell}
+use Rattle.cells.specs.Cell.{made, joinCell, invalidatedCell, bareCell, narrowEnum, unitCell}
 use Rattle.packing.specs.Packing.{construction}
-use Rattle.carried.specs.All.{All, nil, cons, all-append, all-set, all-get, all-map, all-take, all-drop}
-use Rattle.definition.specs.Module.{row}
-use Rattle.definition.specs.Data.{fresh, privateCell, flowIn, readSlots}
-use Rattle.definition.specs.State.{Facts, State, joinCells, joinStates, joinIf, join}
-use Rattle.definition.specs.Outputs.{noCell, withPredicate, withOrigin, originAt, constantCell, fieldCell, nativeCell, replyShape, replyCell, predicateOn, tested}
+use Rattle.carried.specs.All.{All, nil, cons}
+use Rattle.definition.specs.Data.{fresh}
+use Rattle.definition.specs.State.{joinCells}
+use Rattle.definition.specs.Outputs.{noCell, withPredicate, withOrigin, originAt, predicateOn, tested}
 use Rattle.definition.specs.Leaves.{storedFlow}
 use Rattle.reading.specs.Cells.{NamesLocal, NamesReceiver, ProperFlow, Proper}
 
@@ -41,7 +39,7 @@ unfolding NamesReceiver
 flat-receiver true p h = h
 flat-receiver false p h = tt
 
-joined-long : (xs ys : List Extent) → length xs ≡ length ys → length (joinBodies xs ys) ≡ length xs
+pub joined-long : (xs ys : List Extent) → length xs ≡ length ys → length (joinBodies xs ys) ≡ length xs
 joined-long [] ys e = refl
 joined-long (x ∷ xs) [] e = absurd (omega arith)
 joined-long (x ∷ xs) (y ∷ ys) e = ap suc (joined-long xs ys (omega arith))

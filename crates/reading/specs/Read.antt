@@ -1,16 +1,14 @@
 -- A report read back from its bytes, field by field, each number at its place.
 use Prim.Native.Nat.{ℕ, zero, suc, _+_, _*_, _-_, _/_}
-use mathlib.Core.Bool.{Bool, true, false, cond}
+use mathlib.Core.Bool.{cond}
 use mathlib.Core.List.{List, [], _∷_, map}
 use lib.Dec.{eqb}
 use Rattle.le.specs.Le.{at8, at16, at32}
 use Rattle.masks.specs.Mask.{of}
 use Rattle.widths.specs.declared.Width.{Width}
 use Rattle.widths.specs.declared.Width.the-variants.{Unknown as Wide, Scalar, Body}
-use Rattle.extents.specs.declared.BodyExtent.{BodyExtent}
 use Rattle.extents.specs.declared.BodyExtent.the-variants.{Absent, Range, Unknown}
 use Rattle.extents.specs.declared.Extent.{Extent}
-use Rattle.flows.specs.declared.Flow.{Flow}
 use Rattle.flows.specs.declared.Owned.{Owned}
 use Rattle.flows.specs.declared.Owned.the-variants.{No, Yes}
 use Rattle.flows.specs.declared.Origin.{Origin}

@@ -1,38 +1,36 @@
 -- An accepted report is one that can be read back from its bytes.
-use Prim.Native.Nat.{ℕ, zero, suc, _-_}
+use Prim.Native.Nat.{ℕ, suc, _-_}
 use native.Mathlib.Omega.{arith}
-use mathlib.Core.Path.{_≡_, refl, sym, _∙_, ap}
+use mathlib.Core.Path.{_≡_, refl, sym, _∙_}
 use mathlib.Core.Bool.{Bool, true, false, cond}
 use mathlib.Core.Option.{Option, none, some}
-use mathlib.Core.List.{List, [], _∷_, _++_, map}
+use mathlib.Core.List.{List, [], _∷_, map}
 use lib.Dec.{leb}
-use lib.ListN.{length, getD, take, replicate}
+use lib.ListN.{take}
 use Rattle.answers.specs.declared.Refusal.{Refusal}
 use Rattle.masks.specs.declared.Mask.{Mask}
 use Rattle.widths.specs.declared.Shape.{Shape}
 use Rattle.flows.specs.declared.Flow.{Flow}
-use Rattle.flows.specs.Flow.{noFlow}
 use Rattle.cells.specs.declared.Cell.{Cell}
-use Rattle.cells.specs.Cell.{declared, joinCell, unitCell}
+use Rattle.cells.specs.Cell.{declared}
 use Rattle.carried.specs.All.{All, nil, cons, all-append, all-get, all-replicate, Opt}
 use Rattle.definition.specs.declared.Form.{Form}
 use Rattle.definition.specs.declared.Form.the-variants.{Fine}
 use Rattle.definition.specs.declared.Form.the-variants.{Refused as Malformed}
 use Rattle.definition.specs.Machine.{Final, Ran, accepted, refused}
-use Rattle.definition.specs.Module.{Module, Chunk, Line, Site, moduleOf, row}
+use Rattle.definition.specs.Module.{Module, Chunk, Line, Site, moduleOf}
 use Rattle.definition.specs.State.{State, Facts}
-use Rattle.definition.specs.Outputs.{noCell, instr, outputs}
-use Rattle.definition.specs.Ways.{outputList}
+use Rattle.definition.specs.Outputs.{outputs}
 use Rattle.definition.specs.Leaves.{Known, visitOf, lineAt, noLine}
 use Rattle.definition.specs.Form.{formOf}
-use Rattle.definition.specs.Start.{admitted, declaredParams, firstFacts, overfull, siteReply, replyIn, replies, firstReply, replyCell, replyMaximum, knownOf}
-use Rattle.definition.specs.Report.{Report, Record, Output, Signature, signaturesFrom, slotCells, placed, recordFrom, recordOf, fromState, fromStates, fromChunks, reportOf, reportBytes}
+use Rattle.definition.specs.Start.{declaredParams, firstFacts, overfull, siteReply, replyIn, replies, firstReply, replyCell, knownOf}
+use Rattle.definition.specs.Report.{Report, signaturesFrom, slotCells, placed, recordFrom, recordOf, fromState, fromStates, fromChunks, reportOf, reportBytes}
 use Rattle.definition.specs.Call.{Decided, reported, turned, runOf, onRan, admittedRun, onReply, known, onAdmitted, decided, onForm, decide}
 use Rattle.reading.specs.Read.{readReport}
 use Rattle.reading.specs.Cells.{ProperFlow, Proper}
 use Rattle.reading.specs.Back.{ProperSignature, ProperRecord, ProperReport, read-back}
 use Rattle.reading.specs.Kept.{cell-join, flow-new, flow-none, cell-none, cell-unit}
-use Rattle.reading.specs.Runs.{ProperState, ProperFacts, ProperVisit, visit-proper, outputs-proper, run-proper}
+use Rattle.reading.specs.Runs.{ProperState, ProperFacts, visit-proper, outputs-proper, run-proper}
 
 -- ---- from proper facts and states a proper report
 signatures-proper : (n : ℕ) {iss : List (List Cell)} {rs : List Cell} → All (All Proper) iss → All Proper rs → All ProperSignature (signaturesFrom n iss rs)

@@ -1,20 +1,18 @@
 -- Every cell of an accepted report is one that a report can say.
-use Prim.Native.Nat.{ℕ, zero, suc, _+_, _-_, _%_}
-use mathlib.Core.Path.{_≡_, refl, sym, _∙_, ap}
-use mathlib.Core.Bool.{Bool, true, false, not, cond, _&&_, _||_}
+use Prim.Native.Nat.{ℕ, zero, suc, _-_}
+use mathlib.Core.Path.{_≡_}
+use mathlib.Core.Bool.{Bool, true, false, cond, _&&_}
 use mathlib.Core.Option.{Option, none, some}
-use mathlib.Core.List.{List, [], _∷_, _++_, map}
-use lib.Dec.{eqb, ltb, leb}
-use lib.ListN.{length, getD, set, take, drop, replicate}
+use mathlib.Core.List.{List, [], _∷_}
+use lib.Dec.{eqb, leb}
+use lib.ListN.{length, getD}
 use Rattle.masks.specs.declared.Mask.{Mask}
 use Rattle.masks.specs.Mask.{has}
 use Rattle.masks.specs.Names.{ENUM}
 use Rattle.flows.specs.declared.Flow.{Flow}
-use Rattle.flows.specs.declared.Owned.{Owned}
-use Rattle.flows.specs.declared.Origin.the-variants.{Nowhere, Local}
-use Rattle.flows.specs.Flow.{noFlow, joinFlow, negated}
+use Rattle.flows.specs.Flow.{noFlow}
 use Rattle.cells.specs.declared.Cell.{Cell}
-use Rattle.cells.specs.Cell.{made, joinCell, invalidatedCell, bareCell, unitCell}
+use Rattle.cells.specs.Cell.{joinCell, invalidatedCell, bareCell, unitCell}
 use Rattle.ops.specs.declared.Makes.{Makes}
 use Rattle.ops.specs.declared.Makes.the-variants.{Anything, Constant, Immediate, Local as NamedLocal, Operand, OperandMask, Reply, Result, Common, Kind, Negation, OneKind, Slots, Composite, Part, NativeValue}
 use Rattle.ops.specs.declared.Others.{Others}
@@ -22,23 +20,24 @@ use Rattle.ops.specs.declared.Others.the-variants.{Unknowns, Words, Checked, Co
 use Rattle.ops.specs.declared.Acts.{Acts}
 use Rattle.ops.specs.declared.Acts.the-variants.{Still, SetsLocal, Yields, Calls, Returns, Resets, Stores}
 use Rattle.carried.specs.All.{All, nil, cons, all-append, all-set, all-get, all-map, all-take, all-drop, all-replicate, Opt}
-use Rattle.carried.specs.Carry.{bad≢ok, ok-inj, Keeps, FinalOk, check-keeps}
+use Rattle.carried.specs.Carry.{Keeps, check-keeps}
 use Rattle.definition.specs.declared.Made.{Made}
-use Rattle.definition.specs.Res.{Res, ok, bad}
-use Rattle.definition.specs.Machine.{Joined, Effect, Final, Ran, accepted}
+use Rattle.definition.specs.Res.{Res, ok}
+use Rattle.definition.specs.Machine.{Joined, Effect, Final, accepted}
 use Rattle.definition.specs.Module.{Module, Chunk, Line, Site, row}
 use Rattle.definition.specs.Module.{Native as NativeReturn}
-use Rattle.definition.specs.State.{State, Facts, Live, Gift, nothing, arguments, returned, written, joinCells, joinStates, joinIf, join}
-use Rattle.definition.specs.Data.{fresh, privateCell, flowIn, readSlots, isBody}
-use Rattle.definition.specs.Outputs.{Visit, Setting, arg, instr, noCell, withPredicate, withOrigin, constantCell, fieldCell, nativeCell, at, replyShape, replyCell, compositeCell, firstOutput, secondOutput, restOutput, madeFrom, outputs, output, setting}
+use Rattle.definition.specs.State.{State, Facts, Live, Gift, nothing, arguments, returned, written, joinStates, joinIf, join}
+use Rattle.definition.specs.Data.{privateCell, flowIn, readSlots, isBody}
+use Rattle.definition.specs.Outputs.{Visit, Setting, arg, instr, noCell, constantCell, fieldCell, nativeCell, at, replyShape, replyCell, compositeCell, firstOutput, secondOutput, restOutput, madeFrom, outputs, output, setting}
 use Rattle.definition.specs.Ways.{narrowStack, isFrom, narrowed, along, forget, setLocals, outputList, kept, resetFirst, afterBy, after, onWay, leavingBy, leaving}
 use Rattle.definition.specs.Leaves.{Known, visitOf, lineAt, noLine, unless, heightFault, visited, leaves, always, givesBy, gives, joinAt, storedFlow, withFlows, writeFlow, writeMask, writeSlot, writeSlots, absorb, opened, closed, moved}
 use Rattle.definition.specs.Wants.{unfit, isEntry}
 use Rattle.definition.specs.Wants.{returned as below}
 use Rattle.definition.specs.Start.{filled, start, afterChunk}
 use Rattle.definition.specs.Call.{runOf}
+use Rattle.worklist.specs.Bind.{bad≢ok, ok-inj}
 use Rattle.reading.specs.Cells.{ProperFlow, Proper}
-use Rattle.reading.specs.Kept.{flow-join, cell-join, cells-join, flow-new, flow-none, cell-made, cell-fresh, cell-none, cell-unit, pick, cell-invalidated, cell-bare, flow-stored, cell-narrow, cell-predicate, cell-origin, local-at, receiver-negated, cell-tested, cell-construction, nowhere-local}
+use Rattle.reading.specs.Kept.{flow-join, cell-join, cells-join, flow-none, cell-made, cell-fresh, cell-none, cell-unit, pick, cell-invalidated, cell-bare, flow-stored, cell-narrow, cell-predicate, cell-origin, local-at, receiver-negated, cell-tested, cell-construction, nowhere-local}
 
 -- ---- states, facts and gifts
 pub record ProperState (s : State) : Type 0 where

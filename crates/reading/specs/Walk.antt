@@ -1,45 +1,18 @@
 -- The fields of bytes that are fields one after another.
-use Prim.Native.Nat.{ℕ, zero, suc, _+_, _-_, _<_, _≤_}
+use Prim.Native.Nat.{ℕ, _+_, _≤_}
 use native.Mathlib.Omega.{arith}
 use mathlib.Core.Path.{_≡_, refl, sym, _∙_, ap, ap₂}
 use mathlib.Core.Bool.{Bool, true, false, cond}
 use mathlib.Core.List.{List, [], _∷_, _++_, map}
-use lib.Dec.{eqb, ltb}
+use lib.Dec.{eqb}
 use lib.ListN.{length, length-append}
-use borrow.Author.Tests.{eq-eqb, ne-eqb, lt-ltb, le-ltb}
-use Rattle.le.specs.Le.{at8, at16, le16}
-use Rattle.description.specs.Fields.{tagAt, lenAt, nextAt, fieldsF, fieldsFrom, ofTag}
+use borrow.Author.Tests.{eq-eqb, ne-eqb}
+use Rattle.le.specs.Le.{at16, le16}
+use Rattle.description.specs.Fields.{tagAt, lenAt, nextAt, fieldsFrom, ofTag}
 use Rattle.definition.specs.Report.{field, each}
 use Rattle.reading.specs.Has.{Has, has-left, has-right, has-head, has-tail, has-at, read16, long16}
 use Rattle.carried.specs.All.{All, nil, cons}
-
--- any count that is large enough gives the same fields
-enough : (f g : ℕ) (s : List ℕ) (p : ℕ) → length s - p ≤ f → length s - p ≤ g → fieldsF f s p ≡ fieldsF g s p
-unfolding fieldsF nextAt
-enough zero zero s p hf hg = refl
-enough zero (suc g) s p hf hg = rw (le-ltb p (length s) (omega arith))
-enough (suc f) zero s p hf hg = rw (le-ltb p (length s) (omega arith))
-enough (suc f) (suc g) s p hf hg = rw (enough f g s (p + 3 + lenAt s p) (omega arith) (omega arith))
-
-one-more : (f : ℕ) (s : List ℕ) (p : ℕ) → p < length s → fieldsF (suc f) s p ≡ p ∷ fieldsF f s (nextAt s p)
-unfolding fieldsF
-one-more f s p h = rw (lt-ltb p (length s) h)
-
-pub next-past : (s : List ℕ) (p : ℕ) → p < nextAt s p
-unfolding nextAt
-next-past s p = omega arith
-
-pub fields-turn : (s : List ℕ) (p : ℕ) → p < length s → fieldsFrom s p ≡ p ∷ fieldsFrom s (nextAt s p)
-unfolding fieldsFrom
-fields-turn s p h =
-    let n = next-past s p in
-    enough (length s - p) (suc (length s)) s p (omega arith) (omega arith)
-    ∙ one-more (length s) s p h
-    ∙ ap (λ (ps : List ℕ). p ∷ ps) (enough (length s) (length s - nextAt s p) s (nextAt s p) (omega arith) (omega arith))
-
-pub fields-end : (s : List ℕ) (p : ℕ) → length s ≤ p → fieldsFrom s p ≡ []
-unfolding fieldsFrom fieldsF
-fields-end s p h = enough (length s - p) zero s p (omega arith) (omega arith)
+use Rattle.description.specs.Walk.{fields-turn}
 
 pub tags-append : (t : ℕ) (s ps qs : List ℕ) → ofTag t s (ps ++ qs) ≡ ofTag t s ps ++ ofTag t s qs
 unfolding ofTag

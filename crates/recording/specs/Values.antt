@@ -21,7 +21,7 @@ use Rattle.layout.specs.Layout.{inputAt, resultAt}
 use Rattle.layout.specs.Indexed.{Indexed, chunkAt}
 use Rattle.layout.specs.Apart.{result-in}
 use Rattle.layout.specs.Read.{row-small, count-is, params-is, locals-is, stack-is}
-use Rattle.reading.specs.Back.{recordIn}
+use Rattle.reading.specs.Back.{recordIn, guards-long}
 use Rattle.held.specs.declared.Visit.{Visit as Look}
 use Rattle.held.specs.Held.{Looking, knownIn, stateOf, visitIn}
 use Rattle.held.specs.Visits.{row-there, looking-standing, below-long}
@@ -29,8 +29,9 @@ use Rattle.course.specs.Course.{knownAs}
 use Rattle.looking.specs.Parts.{ins-is}
 use Rattle.measuring.specs.Four.{looked-four}
 use Rattle.measuring.specs.Adds.{signatureAt, recordAt}
-use Rattle.measuring.specs.Long.{cells-long, outputs-long, guards-long, placed-many, field-long, signature-long, visitRecord, record-is, contents-long}
+use Rattle.measuring.specs.Long.{cells-long, outputs-long, placed-many, signature-long, visitRecord, record-is, contents-long}
 use Rattle.measuring.specs.Here.{Finished, Here, Visits, numbers-here}
+use Rattle.reading.specs.Walk.{field-long}
 use Rattle.recording.specs.Writes.{cells-more}
 
 -- ---- a record

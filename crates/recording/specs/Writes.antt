@@ -13,16 +13,14 @@ use Rattle.le.specs.Laws.{and-then, resize, same-length}
 use Rattle.words.specs.Layout.{cellAt}
 use Rattle.words.specs.Rows.{cellsAt}
 use Rattle.words.specs.RowLaws.{cellsAt-append, cellsAt-one}
-use Rattle.definition.specs.declared.Made.{Made}
 use Rattle.definition.specs.Module.{row}
-use Rattle.definition.specs.Outputs.{output}
 use Rattle.definition.specs.Report.{placed, field, cellBytes, cellsBytes, outputsBytes, slotBytes}
 use Rattle.goodform.specs.Each.{suc-out}
 use Rattle.putting.specs.Laws.{said}
 use Rattle.measuring.specs.Span.{span, span-none, span-more, span-room}
 use Rattle.measuring.specs.Four.{four-at, four-long}
 use Rattle.measuring.specs.Adds.{bareAt}
-use Rattle.measuring.specs.Long.{field-long}
+use Rattle.reading.specs.Walk.{field-long}
 
 -- the slot k of a module with so many chunks
 unfoldable pub slotFrom : List ℕ → ℕ → ℕ → List ℕ
@@ -91,13 +89,6 @@ outputs-more f p k =
 pub outputs-none : (f : ℕ → Cell) (p : ℕ) → [] ≡ outputsBytes (placed p (row f 0 0))
 unfolding outputsBytes placed row
 outputs-none f p = refl
-
--- past the second output
-pub output-rest : (m : Made) (k : ℕ) → (k ≡ 0 → ⊥) → (k ≡ 1 → ⊥) → m .rest ≡ output m k
-unfolding output
-output-rest m zero a b = absurd (a refl)
-output-rest m (suc zero) a b = absurd (b refl)
-output-rest m (suc (suc k)) a b = refl
 
 -- ---- numbers in 16 bits
 pub low16 : (n : ℕ) → n < 65536 → le16 (n % 65536) ≡ le16 n

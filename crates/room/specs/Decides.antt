@@ -1,18 +1,17 @@
 -- What `decide` makes of it: turned back with the same refusal, or decided over the module with the words beyond W as the queue's room.
-use Prim.Native.Nat.{ℕ, _-_, _<_, _≤_}
+use Prim.Native.Nat.{ℕ, _-_, _<_}
 use native.Mathlib.Omega.{arith}
 use mathlib.Core.Path.{_≡_, refl}
 use mathlib.Core.Bool.{Bool, true, false, cond}
 use mathlib.Core.List.{List}
 use lib.Dec.{leb}
 use borrow.Author.Tests.{leb-false}
-use Rattle.answers.specs.declared.Refusal.{Refusal}
 use Rattle.definition.specs.declared.Form.{Form}
 use Rattle.definition.specs.declared.Form.the-variants.{Fine, Refused}
 use Rattle.definition.specs.Form.{formOf, nowhere}
 use Rattle.definition.specs.Module.{moduleOf}
 use Rattle.definition.specs.Call.{Decided, turned, decided, onForm, decide}
-use Rattle.goodform.specs.Tests.{never}
+use Rattle.masks.specs.Both.{never}
 use Rattle.room.specs.Room.{withRoom, roomBy, roomOf}
 
 -- what is decided after the form and the room were looked at

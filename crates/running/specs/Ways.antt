@@ -1,21 +1,19 @@
 -- A turn by how its taking ends; a run by how its turn ends.
-use Prim.Native.Nat.{ℕ, zero, suc, _+_, _-_, _<_, _≤_}
+use Prim.Native.Nat.{ℕ, suc, _+_, _-_, _<_, _≤_}
 use native.Mathlib.Omega.{arith}
-use mathlib.Core.Path.{_≡_, refl, sym, ap, ap₂, _∙_}
-use mathlib.Core.Bool.{Bool, true, false}
-use mathlib.Core.List.{List, [], _∷_}
+use mathlib.Core.Path.{_≡_, refl, sym, ap, _∙_}
+use mathlib.Core.Bool.{false}
+use mathlib.Core.List.{List}
 use lib.ListN.{length}
 use Rattle.answers.specs.declared.Refusal.{Refusal}
 use Rattle.ring.specs.declared.Queue.{Queue}
 use Rattle.ring.specs.Ring.{Ready, dueOf, poppedOf, queueOf}
-use Rattle.definition.specs.Res.{ok, bad}
-use Rattle.definition.specs.Machine.{Where, Machine, Ran, due, done, stop, accepted, refused, refusal, check, begun, onNext}
-use Rattle.definition.specs.Module.{Chunk, moduleOf}
-use Rattle.definition.specs.State.{State, Facts, Live}
+use Rattle.definition.specs.Machine.{due, stop, accepted, refused, refusal, check, begun, onNext}
+use Rattle.definition.specs.Module.{moduleOf}
 use Rattle.definition.specs.Leaves.{opened}
 use Rattle.definition.specs.Start.{firstFacts, knownOf}
 use Rattle.definition.specs.Call.{runOf}
-use Rattle.goodform.specs.Good.{chunkNo, wordsOf}
+use Rattle.goodform.specs.Good.{wordsOf}
 use Rattle.layout.specs.declared.Tables.{Tables}
 use Rattle.layout.specs.Indexed.{tablesOf}
 use Rattle.held.specs.Held.{liveIn}
@@ -25,13 +23,12 @@ use Rattle.entering.specs.declared.Settled.{Settled}
 use Rattle.entering.specs.declared.Settled.the-variants.{Due, Done, Stop}
 use Rattle.entering.specs.Entering.{whereIn, Goes, Opened, openOf}
 use Rattle.settling.specs.Settling.{Onward}
-use Rattle.taking.specs.declared.Step.{Step}
 use Rattle.taking.specs.declared.Step.the-variants.{Go}
 use Rattle.taking.specs.declared.Step.the-variants.{Stop as Halted}
 use Rattle.taking.specs.Took.{Took}
 use Rattle.taking.specs.Steps.{due-there}
 use Rattle.running.specs.declared.Ran.the-variants.{Done as Finished, Stop as Refused}
-use Rattle.running.specs.Turns.{nextOf, settledOf, settleOf, runFrom, onNextOf, next-stops, next-goes, settled-due, settled-none, run-turn, run-spent}
+use Rattle.running.specs.Turns.{nextOf, settledOf, runFrom, onNextOf, next-stops, next-goes, settled-due, settled-none, run-turn, run-spent}
 use Rattle.running.specs.Running.{SettledAs, Turned, ranIn, EndedBy, RanOn, RanAs}
 
 -- ---- settled

@@ -1,8 +1,8 @@
 -- An access by its slots first to end is one by the instruction's list of them.
 use Prim.Native.Nat.{ℕ, _+_, _-_}
 use native.Mathlib.Omega.{arith}
-use mathlib.Core.Path.{_≡_, refl, sym, ap, _∙_}
-use mathlib.Core.Bool.{Bool, true, false, not, _&&_}
+use mathlib.Core.Path.{_≡_, sym, ap, _∙_}
+use mathlib.Core.Bool.{Bool, true, false, not, _&&_, and-assoc}
 use lib.Dec.{eqb, leb}
 use lib.ListN.{length}
 use Rattle.description.specs.declared.Instr.{Instr}
@@ -14,15 +14,11 @@ use Rattle.held.specs.declared.slots.Slots.{Slots}
 use Rattle.held.specs.Slots.{listOf}
 use Rattle.slots.specs.Slots.{crossedBy, accessFault}
 
-and-assoc : (a b c : Bool) → a && (b && c) ≡ (a && b) && c
-and-assoc true b c = refl
-and-assoc false b c = refl
-
 -- a test of the first slot, and then one of all
 module _ (m : Module) (r : Slots) (shared : ℕ) (placed : Bool) (e : shared ≡ length (m .shared)) (p : placed ≡ isBody m (r .first)) where
   tested : crossedBy m r ≡ (leb shared (r .first) && not placed) && anyBody m (listOf r)
   unfolding crossedBy
-  tested = rw (e, p) (and-assoc (leb (length (m .shared)) (r .first)) (not (isBody m (r .first))) (anyBody m (listOf r)))
+  tested = rw (e, p) (sym (and-assoc (leb (length (m .shared)) (r .first)) (not (isBody m (r .first))) (anyBody m (listOf r))))
 
   pub crossed-all : leb shared (r .first) && not placed ≡ true → anyBody m (listOf r) ≡ crossedBy m r
   crossed-all t = sym (tested ∙ ap (λ (b : Bool). b && anyBody m (listOf r)) t)

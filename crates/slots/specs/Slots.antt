@@ -1,6 +1,6 @@
 -- An access refused, by the slots first to end.
 use Prim.Native.Nat.{ℕ}
-use mathlib.Core.Bool.{Bool, true, false, not, cond, _&&_}
+use mathlib.Core.Bool.{Bool, not, cond, _&&_}
 use lib.Dec.{ltb, leb}
 use lib.ListN.{length}
 use Rattle.definition.specs.Module.{Module}

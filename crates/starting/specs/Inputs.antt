@@ -23,6 +23,7 @@ use Rattle.layout.specs.Indexed.{Indexed, chunkAt}
 use Rattle.layout.specs.Apart.{by-order, inputs-begin, result-begins, result-next, rows-in-area, rows-in, area-apart, input-in, result-in}
 use Rattle.layout.specs.Read.{input-is, result-is, params-is}
 use Rattle.layout.specs.Kept.{Steady, facts-free, steady-free, steady-refl, steady-trans}
+use Rattle.course.specs.Stays.{inputs-end}
 
 -- ---- what is written
 -- the first k inputs of the chunk c
@@ -116,11 +117,6 @@ inputs-are s ws v c i =
     let e : inputAt (moduleOf s) c 0 + 16 * j ≡ inputAt (moduleOf s) c j = omega arith in
     ap (cellAt v) e ∙ i .cells j l)
 
--- the result stands behind the inputs
-ends : (m : Module) (c : ℕ) → inputAt m c 0 + 16 * length (chunkNo m c .params) ≡ resultAt m c
-unfolding inputAt resultAt
-ends m c = omega arith
-
 last : (m : Module) (c : ℕ) → inputAt m c (length (chunkNo m c .params)) ≡ resultAt m c
 unfolding inputAt resultAt
 last m c = refl
@@ -133,7 +129,7 @@ chunk-in s ws v u c at ch b x d y h en eb i ex ea ed (eu, f) =
     let r = result-next m c in
     let e : at ≡ resultAt m c = ea ∙ result-is s ws c ch en in
     let n = length (chunkNo m c .params) in
-    let z : inputAt m c 0 + 16 * n ≡ resultAt m c = ends m c in
+    let z : inputAt m c 0 + 16 * n ≡ resultAt m c = inputs-end m c in
     let o : inputAt m c n ≡ resultAt m c = last m c in
     let u : 16 * areaOf m c ≤ inputAt m c 0 = inputs-begin m c 0 in
     let g : 16 * areaOf m c ≤ resultAt m c = result-begins m c in
@@ -180,7 +176,7 @@ declared-more s begin ws v c h d k =
     record {
       steady = steady-trans m begin ws v (d .steady) (chunk-steady s ws v c h k);
       outside = outside-trans (d .outside) (outside-widen (16 * areaOf m 0) (wordsOf m) (k .outside) (area-first m c h) (rows-in m c h));
-      inputs = below-more _ c (λ n l. cellsAt-outside (k .outside) (inputAt m n 0) _ (inl (omega (arith, before n l, ends m n))) ∙ d .inputs n l) (k .inputs);
+      inputs = below-more _ c (λ n l. cellsAt-outside (k .outside) (inputAt m n 0) _ (inl (omega (arith, before n l, inputs-end m n))) ∙ d .inputs n l) (k .inputs);
       results =
           below-more _ c
           (λ n l. cellAt-outside (k .outside) (resultAt m n) (inl (omega (arith, before n l))) ∙ d .results n l)

@@ -19,17 +19,9 @@ use Rattle.goodform.specs.Good.{Good, noChunk, noShape, chunkNo, lineNo}
 use Rattle.layout.specs.declared.Tables.{Tables}
 use Rattle.layout.specs.declared.Chunk.{Chunk as ChunkNumbers}
 use Rattle.layout.specs.Indexed.{Indexed, tablesOf, chunkPlace, chunkAt}
-use Rattle.layout.specs.Read.{count-is, params-is, field-small, site-is, chunks-are}
+use Rattle.layout.specs.Read.{count-is, params-is, field-small, site-is, chunks-are, entry-is}
 
 -- ---- the numbers of the tables
-pub entry-is : (s : List ℕ) (t : Tables) → t ≡ tablesOf s → t .entry ≡ moduleOf s .entry
-unfolding tablesOf
-entry-is s t e = ap (λ (x : Tables). x .entry) e
-
-pub signatures-are : (s : List ℕ) (t : Tables) → t ≡ tablesOf s → t .signatures ≡ moduleOf s .signatures
-unfolding tablesOf
-signatures-are s t e = ap (λ (x : Tables). x .signatures) e
-
 pub owns-is : (s : List ℕ) (t : Tables) → t ≡ tablesOf s → t .owns ≡ moduleOf s .owns
 unfolding tablesOf
 owns-is s t e = ap (λ (x : Tables). x .owns) e

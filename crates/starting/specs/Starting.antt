@@ -1,13 +1,13 @@
 -- What is settled before the rounds: a refusal for any room and limit, or what a run begins with.
 use Prim.Native.Nat.{ℕ}
 use mathlib.Core.Path.{_≡_}
-use mathlib.Core.Bool.{Bool, true, false}
+use mathlib.Core.Bool.{false}
 use mathlib.Core.List.{List}
 use lib.ListN.{length}
 use Rattle.definition.specs.Module.{moduleOf}
 use Rattle.definition.specs.Leaves.{opened}
 use Rattle.definition.specs.Start.{firstFacts}
-use Rattle.definition.specs.Call.{Decided, turned, onRan, runOf, decided}
+use Rattle.definition.specs.Call.{turned, onRan, runOf, decided}
 use Rattle.held.specs.Held.{liveIn}
 use Rattle.course.specs.Course.{Prepared, knownAs}
 use Rattle.starting.specs.declared.Started.{Started}

@@ -11,7 +11,7 @@ use lib.Seq.{drop-cons, set-getD, getD-set-same, getD-set-other}
 use Rattle.words.specs.RowLaws.{outside-refl, outside-trans, outside-set, outside-widen}
 use Rattle.description.specs.declared.Instr.{Instr}
 use Rattle.definition.specs.Module.{Module, Chunk, moduleOf}
-use Rattle.definition.specs.Form.{callee, fits, fitOf}
+use Rattle.definition.specs.Form.{callee}
 use Rattle.definition.specs.Leaves.{noLine}
 use Rattle.definition.specs.Start.{callsOne, suspendMore, suspendLoop}
 use Rattle.goodform.specs.Each.{row-at}
@@ -23,6 +23,8 @@ use Rattle.layout.specs.Apart.{numbers-in}
 use Rattle.layout.specs.Read.{count-is}
 use Rattle.layout.specs.Kept.{indexed-keep, kept-trans, kept-suspends, steady-refl}
 use Rattle.course.specs.Rows.{row-set}
+use Rattle.masks.specs.Both.{neither}
+use Rattle.ruled.specs.Told.{call-callee}
 use Rattle.suspending.specs.Suspending.{suspendsIn, lookAt, Marked, Looked}
 
 -- ---- what is marked
@@ -47,16 +49,12 @@ unfolding chunkAt
 suspends-is s ws n ch h e = ap (λ (c : ChunkNumbers). c .suspends) e ∙ sym (suspends-at s ws n h)
 
 -- ---- the calls of a chunk
-calls-callee : (op : ℕ) → op ≡ 30 → fitOf op .meaning ≡ callee
-unfolding fitOf fits
-calls-callee op e = rw e
-
 pub callee-there : (s ws : List ℕ) (c i : ℕ) (ch : ChunkNumbers) (ins : Instr) → Indexed s ws → c < length (moduleOf s .chunks) → ch ≡ chunkAt s ws c → i < ch .count
     → ins ≡ lineNo (chunkNo (moduleOf s) c) i .instr → ins .op ≡ 30 → ins .a < length (moduleOf s .chunks)
 callee-there s ws c i ch ins x h e l q o =
     let line = x .good .eachChunk c h .lines i (omega (arith, count-is s ws c ch e)) in
     let op : lineNo (chunkNo (moduleOf s) c) i .instr .op ≡ 30 = ap (λ (y : Instr). y .op) (sym q) ∙ o in
-    omega (arith, line .callee (calls-callee _ op), x .good .signatures, ap (λ (y : Instr). y .a) q)
+    omega (arith, line .callee (call-callee _ op), x .good .signatures, ap (λ (y : Instr). y .a) q)
 
 module _ (s ws : List ℕ) (c i : ℕ) (ch : ChunkNumbers) (e : ch ≡ chunkAt s ws c) (l : i < ch .count) (ss : List Bool) (ins : Instr) (q : ins ≡ lineNo (chunkNo (moduleOf s) c) i .instr)
     (b : Bool) (a : b ≡ (eqb (ins .op) 30 && getD ss (ins .a) false)) where
@@ -145,10 +143,6 @@ unfolding suspendMore chunkNo
 more-turn m c ss h e =
     rw (add-one c, drop-cons (m .chunks) c noChunk h)
     (ap (λ (n : ℕ). suspendMore (drop (suc c) (m .chunks)) (set ss n (getD ss n false || callsOne ss (chunkNo m c .code)))) e)
-
-neither : (a b : Bool) → (a || b) ≡ false → (a ≡ false) × (b ≡ false)
-neither true b e = absurd (true≢false e)
-neither false b e = (refl, e)
 
 pub looking-next : (s begin ws v : List ℕ) (c : ℕ) (changed b : Bool) → Looking s begin ws c changed → Indexed s begin → c < length (moduleOf s .chunks)
     → Looked s ws v (lookAt s ws c) b → Looking s begin v (c + 1) (b || changed)

@@ -1,33 +1,25 @@
 -- What passes along the ways of a visit, read off its row, is what leaves the definition's visit.
-use Prim.Native.Nat.{ℕ, zero, suc, _+_, _*_, _-_, _<_, _≤_}
+use Prim.Native.Nat.{ℕ, zero, suc, _+_, _<_}
 use native.Mathlib.Omega.{arith}
 use mathlib.Core.Path.{_≡_, refl, sym, ap, ap₂, _∙_}
-use mathlib.Core.Bool.{Bool, true, false, cond, _&&_}
+use mathlib.Core.Bool.{Bool, true, false, cond}
 use mathlib.Core.Option.{Option, none, some}
 use mathlib.Core.List.{List, [], _∷_, map}
 use lib.ListN.{length, getD, length-append, length-map, List·getD-eq-default}
 use lib.Dec.{ltb}
 use borrow.Author.Tests.{ltb-true, ltb-false}
-use Rattle.masks.specs.Both.{both}
-use Rattle.masks.specs.declared.Mask.{Mask}
 use Rattle.masks.specs.Mask.{has}
-use Rattle.masks.specs.Names.{ENUM, NONE, UNKNOWN}
+use Rattle.masks.specs.Names.{ENUM}
 use Rattle.flows.specs.declared.Origin.the-variants.{Nowhere}
-use Rattle.flows.specs.declared.Predicate.{Predicate}
 use Rattle.flows.specs.Flow.{newFlow}
 use Rattle.cells.specs.declared.Cell.{Cell}
 use Rattle.cells.specs.Cell.{made}
 use Rattle.ops.specs.declared.Rule.{Rule}
 use Rattle.ops.specs.declared.Acts.{Acts}
 use Rattle.ops.specs.declared.Acts.the-variants.{Still, SetsLocal, Yields, Calls, Returns, Resets, Stores}
-use Rattle.ops.specs.declared.Exit.{Exit}
-use Rattle.ops.specs.declared.Exit.the-variants.{Next, Stops, Jumps, Ifs, Breaks, Restarts}
-use Rattle.ops.specs.declared.Makes.{Makes}
-use Rattle.ops.specs.declared.Makes.the-variants.{Anything, Constant, Immediate, Operand, OperandMask, Reply, Result, Common, Kind, Negation, OneKind, Slots, Composite, Part, NativeValue}
-use Rattle.ops.specs.declared.Makes.the-variants.{Local as NamedLocal}
-use Rattle.ops.specs.declared.Others.{Others}
-use Rattle.ops.specs.declared.Others.the-variants.{Unknowns, Words, Checked, Copies, Tested, Status}
-use Rattle.ops.specs.Ops.{ruleOf, rules, noRule}
+use Rattle.ops.specs.declared.Makes.the-variants.{Anything}
+use Rattle.ops.specs.declared.Others.the-variants.{Unknowns}
+use Rattle.ops.specs.Ops.{ruleOf}
 use Rattle.words.specs.Layout.{cellAt}
 use Rattle.words.specs.Rows.{cellsAt}
 use Rattle.definition.specs.declared.Made.{Made}
@@ -40,110 +32,21 @@ use Rattle.keep.specs.Arrive.{nowhere}
 use Rattle.rows.specs.declared.joining.Leaving.{Leaving}
 use Rattle.rows.specs.Leave.{leavesAs, leavesKept, leavesReset}
 use Rattle.rows.specs.Met.{SetAs, leaves-after, leaves-narrowed, leaves-reset-after}
-use Rattle.ways.specs.Still.{narrowed-still, narrowed-after, narrowed-locals}
+use Rattle.ways.specs.Still.{narrowed-still, narrowed-after, narrowed-locals, narrowed-test}
 use Rattle.held.specs.declared.Visit.{Visit as Look}
 use Rattle.held.specs.Held.{argsIn}
 use Rattle.passing.specs.Passing.{localsOf, leavesWith, alongIn, condition, passesAll, waysIn}
+use Rattle.ruled.specs.Tests.{Testing}
 
--- ---- a test makes nothing that has an origin: seen at each rule of the table
-abbrev tests : Exit → Bool
-tests Next = false
-tests Stops = false
-tests Jumps = false
-tests Ifs = true
-tests Breaks = true
-tests Restarts = false
-
-abbrev isAnything : Makes → Bool
-isAnything Anything = true
-isAnything Constant = false
-isAnything Immediate = false
-isAnything NamedLocal = false
-isAnything Operand = false
-isAnything OperandMask = false
-isAnything Reply = false
-isAnything Result = false
-isAnything (Common m) = false
-isAnything (Kind m) = false
-isAnything Negation = false
-isAnything OneKind = false
-isAnything Slots = false
-isAnything Composite = false
-isAnything Part = false
-isAnything NativeValue = false
-
-abbrev isUnknowns : Others → Bool
-isUnknowns Unknowns = true
-isUnknowns Words = false
-isUnknowns Checked = false
-isUnknowns Copies = false
-isUnknowns (Tested m) = false
-isUnknowns Status = false
-
-abbrev bare : Rule → Bool
-bare r = cond (tests (r .exit)) (isAnything (r .makes) && isUnknowns (r .others)) true
-
-abbrev allBare : List Rule → Bool
-allBare [] = true
-allBare (r ∷ rs) = bare r && allBare rs
-
-bare-at : (rs : List Rule) (d : Rule) → allBare rs ≡ true → bare d ≡ true → (k : ℕ) → bare (getD rs k d) ≡ true
-bare-at [] d h e k = e
-bare-at (r ∷ rs) d h e zero = both (bare r) (allBare rs) h .0
-bare-at (r ∷ rs) d h e (suc k) = bare-at rs d (both (bare r) (allBare rs) h .1) e k
-
-table-bare : (op : ℕ) → bare (ruleOf op) ≡ true
-unfolding ruleOf rules
-table-bare op = bare-at rules noRule refl refl op
-
-anything : (m : Makes) → isAnything m ≡ true → m ≡ Anything
-anything Anything h = refl
-anything Constant h = cc
-anything Immediate h = cc
-anything NamedLocal h = cc
-anything Operand h = cc
-anything OperandMask h = cc
-anything Reply h = cc
-anything Result h = cc
-anything (Common m) h = cc
-anything (Kind m) h = cc
-anything Negation h = cc
-anything OneKind h = cc
-anything Slots h = cc
-anything Composite h = cc
-anything Part h = cc
-anything NativeValue h = cc
-
-unknowns : (o : Others) → isUnknowns o ≡ true → o ≡ Unknowns
-unknowns Unknowns h = refl
-unknowns Words h = cc
-unknowns Checked h = cc
-unknowns Copies h = cc
-unknowns (Tested m) h = cc
-unknowns Status h = cc
-
-narrows-tests : (x : Exit) (p : Predicate) (target to r : ℕ) → narrowing x p target to ≡ some r → tests x ≡ true
-unfolding narrowing
-narrows-tests Next p target to r h = cc
-narrows-tests Stops p target to r h = cc
-narrows-tests Jumps p target to r h = cc
-narrows-tests Ifs p target to r h = refl
-narrows-tests Breaks p target to r h = refl
-narrows-tests Restarts p target to r h = cc
-
+-- ---- a test makes nothing that has an origin
 module _ (x : Visit) (e : x .rule ≡ ruleOf (instr x .op)) (to r : ℕ) (h : narrowing (x .rule .exit) (arg x 0 .flow .predicate) (instr x .a) to ≡ some r) where
-  test-bare : (isAnything (x .rule .makes) && isUnknowns (x .rule .others)) ≡ true
-  test-bare =
-      let b : bare (x .rule) ≡ true = rw e (table-bare (instr x .op)) in
-      rw (narrows-tests (x .rule .exit) _ _ _ _ h) at b
+  test : Testing (x .rule)
+  test = rw e (narrowed-test (instr x .op) _ _ _ _ (rw e at h))
 
   -- so no output of a test has an origin
   test-outputs : (k : ℕ) → output (outputs x) k .flow .origin ≡ Nowhere
   unfolding outputs madeFrom output firstOutput secondOutput restOutput made newFlow
-  test-outputs k =
-      let m = anything (x .rule .makes) (both (isAnything (x .rule .makes)) (isUnknowns (x .rule .others)) test-bare .0) in
-      let o = unknowns (x .rule .others) (both (isAnything (x .rule .makes)) (isUnknowns (x .rule .others)) test-bare .1) in
-      go k m o
+  test-outputs k = go k (test .makes) (test .others)
     where
       go : (k : ℕ) → x .rule .makes ≡ Anything → x .rule .others ≡ Unknowns → output (outputs x) k .flow .origin ≡ Nowhere
       go zero m o = rw m

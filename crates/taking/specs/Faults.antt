@@ -6,13 +6,11 @@ use mathlib.Core.Bool.{Bool, true, false, cond}
 use mathlib.Core.List.{List}
 use lib.ListN.{length}
 use lib.Dec.{eqb, ltb}
-use borrow.Author.Tests.{lt-ltb, le-ltb, ltb-false}
-use Rattle.definition.specs.Module.{moduleOf}
-use Rattle.definition.specs.Outputs.{Visit, instr}
+use borrow.Author.Tests.{lt-ltb, le-ltb}
+use Rattle.definition.specs.Outputs.{Visit}
 use Rattle.definition.specs.Ways.{after}
 use Rattle.definition.specs.Wants.{isEntry, unfit}
 use Rattle.definition.specs.Leaves.{always, heightFault, visitOf}
-use Rattle.goodform.specs.Good.{chunkNo}
 use Rattle.layout.specs.declared.Chunk.{Chunk}
 use Rattle.layout.specs.declared.Tables.{Tables}
 use Rattle.layout.specs.Indexed.{tablesOf, chunkAt}
@@ -87,11 +85,3 @@ unfolding faultOf
 faultless b x h e =
     let (p, q) = first-zero (always x h) _ e in
     (p, first-zero (cond b (unfit x) 0) (heightFault x) q .1)
-
--- so what leaves has its places
-pub low-enough : (x : Visit) → heightFault x ≡ 0 → length (after x .stack) ≤ x .chunk .stack
-low-enough x e = go (ltb (x .chunk .stack) (length (after x .stack))) refl e
-  where
-    go : (c : Bool) → ltb (x .chunk .stack) (length (after x .stack)) ≡ c → _≡_ {A = ℕ} (cond c 18 0) 0 → length (after x .stack) ≤ x .chunk .stack
-    go true h e = absurd (omega arith)
-    go false h e = ltb-false (x .chunk .stack) (length (after x .stack)) h

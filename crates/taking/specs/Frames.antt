@@ -1,11 +1,10 @@
 -- The code's visit is the definition's, also after the facts were written.
-use Prim.Native.Nat.{ℕ, zero, suc, _+_, _*_, _-_, _<_, _≤_}
+use Prim.Native.Nat.{ℕ, _+_, _*_, _-_, _<_, _≤_}
 use native.Mathlib.Omega.{arith}
-use mathlib.Core.Path.{_≡_, refl, sym, ap, ap₂, _∙_}
-use mathlib.Core.Bool.{Bool, cond}
-use mathlib.Core.List.{List, [], _∷_}
+use mathlib.Core.Path.{_≡_, refl, sym, ap, _∙_}
+use mathlib.Core.Bool.{cond}
+use mathlib.Core.List.{List}
 use lib.ListN.{length, getD}
-use Rattle.cells.specs.declared.Cell.{Cell}
 use Rattle.ops.specs.declared.Rule.{Rule}
 use Rattle.description.specs.declared.Instr.{Instr}
 use Rattle.ops.specs.Ops.{ruleOf}

@@ -1,22 +1,22 @@
 -- One taking, by how it ends: the entry is dropped, the visit is refused, a way stops, all ways are passed.
-use Prim.Native.Nat.{ℕ, zero, suc, _+_, _-_, _<_, _≤_}
+use Prim.Native.Nat.{ℕ, suc, _+_, _<_, _≤_}
 use native.Mathlib.Omega.{arith}
-use mathlib.Core.Path.{_≡_, refl, sym, ap, ap₂, _∙_}
+use mathlib.Core.Path.{_≡_, refl, sym, ap, _∙_}
 use mathlib.Core.Bool.{Bool, true, false, cond}
-use mathlib.Core.Option.{Option, none, some}
-use mathlib.Core.List.{List, [], _∷_}
+use mathlib.Core.Option.{none, some}
+use mathlib.Core.List.{List}
 use lib.ListN.{length, getD}
 use Rattle.answers.specs.declared.Refusal.{Refusal}
 use Rattle.ring.specs.declared.Queue.{Queue}
 use Rattle.ring.specs.Ring.{Ready, capOf, entryAt, dueOf, poppedOf, queueOf, entries-pop, ready-pop}
-use Rattle.definition.specs.Res.{Res, ok, bad}
+use Rattle.definition.specs.Res.{bad}
 use Rattle.definition.specs.Machine.{refusal, visit, visitAt, adds}
 use Rattle.definition.specs.Module.{moduleOf}
 use Rattle.definition.specs.Start.{knownOf}
-use Rattle.definition.specs.State.{State, Live, Gift, join}
-use Rattle.definition.specs.Outputs.{Visit, instr}
+use Rattle.definition.specs.State.{Live, Gift, join}
+use Rattle.definition.specs.Outputs.{instr}
 use Rattle.definition.specs.Ways.{after}
-use Rattle.definition.specs.Leaves.{Known, gives, absorb, leaves, always, heightFault, visitOf}
+use Rattle.definition.specs.Leaves.{Known, gives, absorb, leaves, visitOf}
 use Rattle.goodform.specs.Good.{chunkNo, wordsOf}
 use Rattle.layout.specs.declared.Chunk.{Chunk}
 use Rattle.layout.specs.declared.Tables.{Tables}
@@ -34,17 +34,19 @@ use Rattle.course.specs.Course.{statesIn, workIn, seenIn, roomIn, knownAs, Low,
 use Rattle.course.specs.Rows.{states-at}
 use Rattle.course.specs.Stays.{facts-low}
 use Rattle.course.specs.Queues.{queue-at, queued-kept}
-use Rattle.course.specs.Admitted.{chunk-admitted}
+use Rattle.goodform.specs.Admitted.{chunk-admitted}
 use Rattle.passing.specs.declared.Went.the-variants.{On, Stop as Turned}
 use Rattle.passing.specs.Passing.{Leaves, waysIn, Passed}
+use Rattle.goodform.specs.Tests.{ne-pos}
+use Rattle.ruled.specs.Faults.{low-enough}
 use Rattle.taking.specs.declared.Step.{Step}
 use Rattle.taking.specs.declared.Step.the-variants.{Go, Stop}
-use Rattle.taking.specs.Alike.{isResets, Alike, after-high}
+use Rattle.taking.specs.Alike.{Alike, after-high}
 use Rattle.taking.specs.Taking.{addsOf, takingOf, faultOf, taking-faulty}
 use Rattle.taking.specs.Frames.{looking-facts}
 use Rattle.taking.specs.Frames.{stack-is as row-stack}
 use Rattle.taking.specs.Taken.{stops, goes, still-between, past-stays, long-stays}
-use Rattle.taking.specs.Faults.{faultless, low-enough}
+use Rattle.taking.specs.Faults.{faultless}
 use Rattle.taking.specs.Took.{Took}
 
 -- ---- only the rounds add to the facts
@@ -187,10 +189,6 @@ unfolding adds knownOf
 adds-here s cap b f g e = adds-all (knownAs s) cap b f g e
 
 -- ---- the entry that is due, found in the words
-some-there : (n : ℕ) → (n ≡ 0 → ⊥) → 0 < n
-some-there zero d = absurd (d refl)
-some-there (suc n) d = omega arith
-
 base-is : (s : List ℕ) (t : Tables) → t ≡ tablesOf s → t .«queue_at» ≡ wordsOf (moduleOf s)
 unfolding tablesOf
 base-is s t e = ap (λ (x : Tables). x .«queue_at») e
@@ -230,7 +228,7 @@ module _ (s ws : List ℕ) (r : Run) (t : Tables) (between : Between s ws r) (so
           (
             omega (arith, due-row .there, count-is s ws (r .chunk) ch c),
             (
-              some-there (getD ws (rowAt (moduleOf s) (r .chunk) i) 0) h,
+              ne-pos (getD ws (rowAt (moduleOf s) (r .chunk) i) 0) h,
               omega (arith, between .low i (due-row .there), stack-is s ws (r .chunk) ch c),
             ),
           ),

@@ -1,18 +1,15 @@
 -- A visit whose facts were written and whose ways were passed is one taking of the machine.
-use Prim.Native.Nat.{ℕ, zero, suc, _+_, _*_, _-_, _<_, _≤_}
+use Prim.Native.Nat.{ℕ, _-_, _<_, _≤_}
 use native.Mathlib.Omega.{arith}
-use mathlib.Core.Path.{_≡_, refl, sym, ap, ap₂, _∙_}
+use mathlib.Core.Path.{_≡_, refl, sym, _∙_}
 use mathlib.Core.Bool.{Bool, true, false, cond}
-use mathlib.Core.Option.{Option}
-use mathlib.Core.List.{List, [], _∷_}
-use lib.ListN.{length, getD}
+use mathlib.Core.List.{List, []}
+use lib.ListN.{length}
 use Rattle.ring.specs.declared.Queue.{Queue}
-use Rattle.ring.specs.Ring.{queueOf}
-use Rattle.definition.specs.Res.{Res, ok, bad}
-use Rattle.definition.specs.Machine.{Work, puts}
+use Rattle.definition.specs.Res.{ok, bad}
+use Rattle.definition.specs.Machine.{puts}
 use Rattle.definition.specs.Module.{moduleOf}
-use Rattle.definition.specs.State.{State, Live, join}
-use Rattle.definition.specs.Outputs.{Visit}
+use Rattle.definition.specs.State.{join}
 use Rattle.definition.specs.Ways.{leaving}
 use Rattle.definition.specs.Leaves.{gives}
 use Rattle.goodform.specs.Good.{chunkNo, wordsOf}

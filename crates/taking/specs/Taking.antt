@@ -1,20 +1,18 @@
 -- One taking of an entry, as the machine has it.
-use Prim.Native.Nat.{ℕ, zero, suc, _+_, _*_, _-_, _<_, _≤_}
+use Prim.Native.Nat.{ℕ, zero, suc, _+_}
 use native.Mathlib.Omega.{arith}
-use mathlib.Core.Path.{_≡_, refl, sym, ap, ap₂, _∙_}
-use mathlib.Core.Bool.{Bool, true, false, cond}
-use mathlib.Core.Option.{Option, none, some}
-use mathlib.Core.List.{List, [], _∷_}
+use mathlib.Core.Path.{_≡_, refl, sym, ap, _∙_}
+use mathlib.Core.Bool.{Bool, cond}
+use mathlib.Core.Option.{none, some}
+use mathlib.Core.List.{List}
 use lib.ListN.{length, getD}
-use Rattle.cells.specs.declared.Cell.{Cell}
-use Rattle.words.specs.Rows.{cellsAt}
 use Rattle.words.specs.RowLaws.{cellsAt-length}
 use Rattle.ring.specs.declared.Queue.{Queue}
 use Rattle.ring.specs.Ring.{queueOf}
 use Rattle.definition.specs.Res.{Res, ok, bad, bind}
 use Rattle.definition.specs.Machine.{Effect, Work, Seen, puts, visit, visitAt, adds}
-use Rattle.definition.specs.Module.{Module, Chunk, Line, moduleOf}
-use Rattle.definition.specs.State.{State, Facts, Live, Gift, join}
+use Rattle.definition.specs.Module.{moduleOf}
+use Rattle.definition.specs.State.{State, Live, Gift, join}
 use Rattle.definition.specs.Outputs.{Visit}
 use Rattle.definition.specs.Wants.{unfit}
 use Rattle.definition.specs.Ways.{leaving}
@@ -26,7 +24,7 @@ use Rattle.rows.specs.Leave.{stateBy, stateIn}
 use Rattle.held.specs.declared.Visit.{Visit as Look}
 use Rattle.held.specs.Held.{liveIn, knownIn, Looking, stateOf, visitIn}
 use Rattle.course.specs.declared.Run.{Run}
-use Rattle.course.specs.Course.{statesIn, workIn, seenIn, roomIn, knownAs}
+use Rattle.course.specs.Course.{statesIn, workIn, roomIn, knownAs}
 use Rattle.course.specs.Rows.{states-at}
 
 -- only the rounds add to the facts

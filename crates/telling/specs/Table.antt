@@ -1,12 +1,9 @@
 -- Which instructions inspect and which test: seen at each rule of the table.
-use Prim.Native.Nat.{ℕ, zero, suc, _+_, _≤_}
-use native.Mathlib.Nat.{add-zero, zero-add}
+use Prim.Native.Nat.{ℕ, _≤_}
 use native.Mathlib.Omega.{arith}
-use mathlib.Core.Path.{_≡_, refl, sym, ap, _∙_}
+use mathlib.Core.Path.{_≡_, refl, ap, _∙_}
 use mathlib.Core.Bool.{Bool, true, false, not, cond, _&&_, _||_}
-use mathlib.Core.List.{List, [], _∷_}
 use lib.Dec.{eqb}
-use lib.ListN.{length, getD}
 use borrow.Author.Tests.{eqb-true, ne-eqb}
 use Rattle.masks.specs.Both.{both}
 use Rattle.masks.specs.declared.Mask.{Mask}
@@ -19,7 +16,8 @@ use Rattle.ops.specs.declared.Others.the-variants.{Unknowns, Words, Checked, Co
 use Rattle.ops.specs.declared.Rule.{Rule}
 use Rattle.ops.specs.Ops.{rules, noRule, ruleOf}
 use Rattle.definition.specs.Report.{saysFalse, isTest}
-use Rattle.goodform.specs.Each.{suc-out}
+use Rattle.laws.specs.Flows.{bool-sound}
+use Rattle.ruled.specs.Table.{every-rule}
 
 abbrev inspects : Others → Bool
 inspects (Tested k) = true
@@ -39,36 +37,20 @@ tester op = eqb op 21 || eqb op 27
 abbrev told : ℕ → Rule → Bool
 told op r = sameBool (inspects (r .others)) (inspector op) && sameBool (isTest (r .exit)) (tester op)
 
-abbrev allTold : ℕ → List Rule → Bool
-allTold n [] = true
-allTold n (r ∷ rs) = told n r && allTold (suc n) rs
-
 none-told : (op : ℕ) → 66 ≤ op → told op noRule ≡ true
 unfolding isTest
 none-told op h =
     rw (ne-eqb op 40 (λ e. omega arith), ne-eqb op 41 (λ e. omega arith), ne-eqb op 21 (λ e. omega arith), ne-eqb op 27 (λ e. omega arith)) refl
 
-told-at : (k : ℕ) (rs : List Rule) → 66 ≤ k + length rs → allTold k rs ≡ true → (n : ℕ) → told (k + n) (getD rs n noRule) ≡ true
-unfolding isTest
-told-at k [] l h n = none-told (k + n) (omega arith)
-told-at k (r ∷ rs) l h zero = rw (add-zero k) (both (told k r) (allTold (suc k) rs) h .0)
-told-at k (r ∷ rs) l h (suc n) = rw (suc-out k n) (told-at (suc k) rs (omega arith) (both (told k r) (allTold (suc k) rs) h .1) n)
-
 table-told : (op : ℕ) → told op (ruleOf op) ≡ true
-unfolding ruleOf rules isTest
-table-told op = rw (zero-add op) at (told-at 0 rules (omega arith) refl op)
-
-same-is : (a b : Bool) → sameBool a b ≡ true → a ≡ b
-same-is true true h = refl
-same-is true false h = sym h
-same-is false true h = h
-same-is false false h = refl
+unfolding rules isTest
+table-told = every-rule told none-told refl
 
 pub tests-by : (op : ℕ) → isTest (ruleOf op .exit) ≡ tester op
-tests-by op = same-is _ _ (both (sameBool (inspects (ruleOf op .others)) (inspector op)) _ (table-told op) .1)
+tests-by op = bool-sound _ _ (both (sameBool (inspects (ruleOf op .others)) (inspector op)) _ (table-told op) .1)
 
 inspects-by : (op : ℕ) → inspects (ruleOf op .others) ≡ inspector op
-inspects-by op = same-is _ _ (both (sameBool (inspects (ruleOf op .others)) (inspector op)) _ (table-told op) .0)
+inspects-by op = bool-sound _ _ (both (sameBool (inspects (ruleOf op .others)) (inspector op)) _ (table-told op) .0)
 
 silent : (o : Others) (c : Cell) → inspects o ≡ false → saysFalse o c ≡ false
 unfolding saysFalse

@@ -1,6 +1,5 @@
 -- Declared shapes: `shape` of types.rs, and the width that the description carries in place of `width_of_declared_shape`.
-use Prim.Native.Nat.{ℕ}
-use mathlib.Core.Bool.{Bool, true, false, cond}
+use mathlib.Core.Bool.{cond}
 use lib.Dec.{eqb}
 use Rattle.masks.specs.declared.Mask.{Mask}
 use Rattle.masks.specs.Mask.{of, scalar, body}

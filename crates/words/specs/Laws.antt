@@ -1,7 +1,7 @@
 -- Laws of cells in words: what is stored is read back, other words stay, equal words are equal cells, and equal cells that words hold are equal words.
 use Prim.Native.Nat.{ℕ, zero, suc, _+_, _*_, _/_, _%_, _≤_, _<_}
 use mathlib.Core.Path.{_≡_, refl, sym, ap, ap₂, _∙_}
-use mathlib.Core.Bool.{Bool, true, false, cond, not, _&&_, _||_, true≢false}
+use mathlib.Core.Bool.{Bool, true, false, cond, not, _&&_}
 use mathlib.Core.List.{List, [], _∷_}
 use mathlib.Core.Logic.{_⊎_, inl, inr}
 use native.Mathlib.Omega.{arith}
@@ -10,8 +10,7 @@ use lib.ListN.{length, getD, set, length-set}
 use lib.Seq.{getD-set-same, getD-set-other}
 use borrow.Author.Count.{below-more}
 use borrow.Author.Tests.{eqb-true, eq-eqb, ltb-true, ltb-false, lt-ltb}
-use Rattle.masks.specs.Both.{both}
-use Rattle.masks.specs.declared.Mask.{Mask}
+use Rattle.masks.specs.Both.{both, neither}
 use Rattle.masks.specs.Mask.{of}
 use Rattle.widths.specs.declared.Width.{Width}
 use Rattle.widths.specs.declared.Width.the-variants.{Unknown as Wide, Scalar, Body}
@@ -25,10 +24,9 @@ use Rattle.flows.specs.declared.Origin.{Origin}
 use Rattle.flows.specs.declared.Origin.the-variants.{Nowhere, Local}
 use Rattle.flows.specs.declared.Predicate.{Predicate}
 use Rattle.flows.specs.declared.Predicate.the-variants.{Nothing as Untested, Tests}
-use Rattle.flows.specs.declared.Flow.{Flow}
 use Rattle.flows.specs.Flow.{absent, noFlow}
 use Rattle.cells.specs.declared.Cell.{Cell}
-use Rattle.words.specs.Layout.{widthOf, extentOf, ownedOf, originOf, predicateOf, twoOf, threeOf, threeOfBody, ownedBits, originWords, predicateWords, encode, decode, off, off-is, cellAt, putN, putCell, copyN, sameN, flowAt, plainAt, decode-eq, Fit}
+use Rattle.words.specs.Layout.{widthOf, extentOf, ownedOf, originOf, predicateOf, twoOf, threeOfBody, ownedBits, originWords, predicateWords, encode, decode, off-is, cellAt, putN, putCell, copyN, sameN, flowAt, plainAt, decode-eq, Fit}
 
 origin-fit : (tag n : ℕ) → originWords (originOf tag n) .1 < 65536
 origin-fit tag n = go (eqb tag 0)
@@ -297,10 +295,6 @@ plain-holds w at c f h o p =
     lt-ltb (getD w at 0) 1048576 (omega (arith, f .mask, width-small (c .width), owned-small (c .flow .owned)))
 
 -- ---- cells without flow
-neither : (s t : Bool) → s || t ≡ false → (s ≡ false) × (t ≡ false)
-neither false t e = (refl, e)
-neither true t e = absurd (true≢false e)
-
 zero-word : (n : ℕ) → not (eqb n 0) ≡ false → n ≡ 0
 zero-word n e = eqb-true n 0 (go (eqb n 0) e)
   where

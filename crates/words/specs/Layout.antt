@@ -1,9 +1,9 @@
 -- A cell as sixteen words: how it is written and read, and the models of the loops that copy and compare words. The last word is not the cell's.
-use Prim.Native.Nat.{ℕ, zero, suc, _+_, _*_, _/_, _%_, _≤_, _<_}
+use Prim.Native.Nat.{ℕ, zero, suc, _+_, _*_, _/_, _%_, _<_}
 use native.Mathlib.Omega.{arith}
 use mathlib.Core.Bool.{Bool, true, false, cond, not, _&&_, _||_}
 use mathlib.Core.List.{List, [], _∷_}
-use mathlib.Core.Path.{_≡_, refl, sym, ap, ap₂, _∙_}
+use mathlib.Core.Path.{_≡_, refl, ap₂, _∙_}
 use borrow.Author.Count.{below-more}
 use lib.Seq.{getD-set-same, getD-set-other}
 use lib.Dec.{eqb, ltb}
@@ -21,7 +21,6 @@ use Rattle.flows.specs.declared.Origin.{Origin}
 use Rattle.flows.specs.declared.Origin.the-variants.{Nowhere, Local}
 use Rattle.flows.specs.declared.Predicate.{Predicate}
 use Rattle.flows.specs.declared.Predicate.the-variants.{Nothing as Untested, Tests}
-use Rattle.flows.specs.declared.Flow.{Flow}
 use Rattle.flows.specs.Flow.{absent}
 use Rattle.cells.specs.declared.Cell.{Cell}
 use Rattle.words.specs.declared.cell.Two.{Two}

@@ -17,8 +17,8 @@ bad-inj h = cc
 pub none≢some : {A : Type 0} {a : A} → none ≡ some a → ⊥
 none≢some h = let z : _≡_ {A = ℕ} 0 1 = cc in omega arith
 
-pub opt-inj : {A : Type 0} {a b : A} → some a ≡ some b → a ≡ b
-opt-inj h = cc
+pub some-inj : {A : Type 0} {a b : A} → some a ≡ some b → a ≡ b
+some-inj h = cc
 
 -- an accepted bind has an accepted first part, handed on as a variable
 pub bind-use {ℓ} : {A B : Type 0} {C : Type ℓ} (r : Res A) (f : A → Res B) {b : B} → bind r f ≡ ok b → ((a : A) → r ≡ ok a → f a ≡ ok b → C) → C

@@ -11,7 +11,7 @@ use lib.Seq.{getD-set-same, getD-set-other}
 use lib.Dec.{ltb, ltb→lt, lt→ltb}
 use Rattle.definition.specs.Res.{Res, ok}
 use Rattle.definition.specs.Machine.{Joined, Work, push, putJoined, putAt, putIn, put, puts}
-use Rattle.worklist.specs.Bind.{bad≢ok, ok-inj, none≢some, opt-inj, bind-use}
+use Rattle.worklist.specs.Bind.{bad≢ok, ok-inj, none≢some, some-inj, bind-use}
 
 module _ {S : Type 0} (join : S → S → Res (Joined S)) where
   -- joining `x` changes nothing
@@ -124,7 +124,7 @@ module _ {S : Type 0} (join : S → S → Res (Joined S)) where
     unfolding putJoined
     joined-inv w w′ t s x j true e c r h l =
         let p =
-        push-inv w w′ t (j .value) (ltb (length (w .queue)) cap) h l (λ s′ r′ y. rw (← opt-inj (sym r ∙ r′)) (laws .keeps s x y j e)) in
+        push-inv w w′ t (j .value) (ltb (length (w .queue)) cap) h l (λ s′ r′ y. rw (← some-inj (sym r ∙ r′)) (laws .keeps s x y j e)) in
         (p .0, λ l′. (j .value, p .1, laws .takes s x j e))
     joined-inv w w′ t s x j false e c r h l = rw (← ok-inj h) (moved-refl (λ j. j ≡ t) w, λ l′. (s, r, laws .same s x j e c))
 

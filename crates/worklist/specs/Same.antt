@@ -5,7 +5,7 @@ use mathlib.Core.Option.{Option}
 use mathlib.Core.List.{List, []}
 use Rattle.definition.specs.Res.{Res, ok}
 use Rattle.definition.specs.Machine.{Joined, Effect, Work, puts}
-use Rattle.worklist.specs.Bind.{ok-inj, none≢some, opt-inj}
+use Rattle.worklist.specs.Bind.{ok-inj, none≢some, some-inj}
 use Rattle.worklist.specs.Moves.{Laws, Recorded}
 use Rattle.worklist.specs.Steps.{Steps, stay, drop, step}
 use Rattle.worklist.specs.Settle.{Frame, steps-still}
@@ -18,7 +18,7 @@ module _ {F R S G : Type 0} (join : S → S → Res (Joined S)) (laws : Laws joi
       → Recorded st i s → Recorded st i s′ → leaves (view f) i s ≡ ok e → leaves′ (view g) i s′ ≡ ok e′
       → puts join cap (record { states = st; queue = q }) (e .ways) ≡ ok w → puts join cap (record { states = st; queue = q }) (e′ .ways) ≡ ok w′ → w ≡ w′
   visits-agree f g st q i s s′ e e′ w w′ u r r′ l l′ p p′ =
-      let es : s′ ≡ s = opt-inj (sym r′ ∙ r) in
+      let es : s′ ≡ s = some-inj (sym r′ ∙ r) in
       let ee : e ≡ e′ = agree (view f) i s e e′ l (rw (u, ← es) l′) in
       ok-inj (sym p ∙ (rw ee p′))
 

@@ -7,7 +7,7 @@ use mathlib.Core.List.{List, _∷_, List·Memᴰ, List·Memᴰ·cases-cons}
 use lib.ListN.{getD}
 use Rattle.definition.specs.Res.{Res, ok}
 use Rattle.definition.specs.Machine.{Joined, Effect, Work}
-use Rattle.worklist.specs.Bind.{none≢some, opt-inj}
+use Rattle.worklist.specs.Bind.{none≢some, some-inj}
 use Rattle.worklist.specs.Moves.{Laws, Recorded, Grown, Moved, Via, AllIn, grown-refl, grown-trans, taken-grown, puts-inv}
 use Rattle.worklist.specs.Steps.{Steps, stay, drop, step}
 
@@ -80,7 +80,7 @@ module _ {F R S G : Type 0} (join : S → S → Res (Joined S)) (laws : Laws joi
     where
       self : j ≡ i → Recorded st j s → Settled (absorb f (e .gives)) (w .states) j s
       self n r =
-          let es : x ≡ s = opt-inj (sym was ∙ (rw n at r)) in
+          let es : x ≡ s = some-inj (sym was ∙ (rw n at r)) in
           record { out = e; leaving = rw (u, n, ← es) leaving; taken = taken; had = frame .has f (e .gives) }
 
       old : Recorded st j s → List·Memᴰ j (i ∷ q) ⊎ Settled f st j s → List·Memᴰ j (w .queue) ⊎ Settled (absorb f (e .gives)) (w .states) j s

@@ -11,11 +11,10 @@ use Rattle.layout.specs.declared.Tables.{Tables}
 use Rattle.layout.specs.Layout.{areaOf}
 use Rattle.layout.specs.Indexed.{Indexed, tablesOf}
 use Rattle.layout.specs.Apart.{area-in}
-use Rattle.layout.specs.Read.{chunks-are, slots-are, slot-is}
+use Rattle.layout.specs.Read.{chunks-are, slots-are, slot-is, signatures-are}
 use Rattle.measuring.specs.Reporting.{reportIn}
 use Rattle.measuring.specs.Span.{span, span-same}
 use Rattle.measuring.specs.Adds.{bareAt, signatureAt, privateAt, chunksFor, report-added}
-use Rattle.measuring.specs.Here.{signatures-are}
 use Rattle.recording.specs.Writes.{slotFrom}
 
 module _ (s ws : List ℕ) (t : Tables) (e : t ≡ tablesOf s) where

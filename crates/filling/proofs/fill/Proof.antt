@@ -1,5 +1,4 @@
 use native.Mathlib.Omega.{arith}
-use mathlib.Core.Path.{sym}
 use Rattle.filling.proofs.Walking.{front-fits}
 use borrow.Author.Needs.{needs}
 use Rattle.filling.proofs.fill.Statement.{statement}

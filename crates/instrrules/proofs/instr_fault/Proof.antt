@@ -3,9 +3,9 @@ use mathlib.Core.Bool.{not, _||_}
 use lib.Dec.{eqb, ltb}
 use Rattle.definition.specs.Form.{instrFault}
 use borrow.Author.Tests.{ltb-false}
-use Rattle.formrules.specs.Flags.{neither}
 use native.Mathlib.Omega.{arith}
 use borrow.Author.Needs.{needs}
+use Rattle.masks.specs.Both.{neither}
 use Rattle.instrrules.proofs.instr_fault.Statement.{statement}
 use Rattle.instrrules.proofs.instr_fault.Tie as tie
 

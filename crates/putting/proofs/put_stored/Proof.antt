@@ -1,7 +1,6 @@
 -- `putting::put_stored` meets its contract: words without flow take the short way.
 use mathlib.Core.Path.{sym, ap, _∙_}
 use denote.Ref.{now}
-use native.Mathlib.Omega.{arith}
 use Rattle.cells.specs.declared.Cell.{Cell}
 use Rattle.words.specs.Laws.{flow-none}
 use borrow.Author.Needs.{needs}

@@ -1,12 +1,13 @@
 -- `starting::declare` meets its contract.
 use Rattle.starting.specs.Inputs.{DeclaredIn, declared-none, declared-more}
-use Rattle.starting.specs.Replies.{owns-is, signatures-are}
+use Rattle.starting.specs.Replies.{owns-is}
 use Rattle.layout.specs.Kept.{indexed-steady}
 use Rattle.definition.specs.Module.{moduleOf}
 use mathlib.Core.Path.{_≡_}
 use Prim.Native.Nat.{_≤_, _-_}
 use denote.Ref.{now}
 use native.Mathlib.Omega.{arith}
+use Rattle.layout.specs.Read.{signatures-are}
 use Rattle.starting.proofs.declare.Statement.{statement}
 use Rattle.starting.proofs.declare.Tie as tie
 

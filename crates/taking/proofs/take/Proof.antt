@@ -1,6 +1,5 @@
 use Rattle.taking.specs.Steps.{took-at, took-dropped, ready-at, due-is, popped-is, popped-queued, due-row, visit-ready}
 use Rattle.layout.specs.Indexed.{chunkAt}
-use denote.Ref.{now}
 use native.Mathlib.Omega.{arith}
 use mathlib.Core.Path.{sym, ap, _∙_}
 use borrow.Author.Needs.{needs}

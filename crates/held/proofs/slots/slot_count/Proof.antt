@@ -1,4 +1,3 @@
-use native.Mathlib.Omega.{arith}
 use Rattle.definition.specs.Data.{slotCount}
 use borrow.Author.Needs.{needs}
 use Rattle.held.proofs.slots.slot_count.Statement.{statement}

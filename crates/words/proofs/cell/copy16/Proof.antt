@@ -1,10 +1,10 @@
-use lib.ListN.{length, getD}
-use mathlib.Core.Path.{_≡_, refl, sym, ap, _∙_}
-use Prim.Native.Nat.{ℕ, _≤_, _+_, _<_}
+use lib.ListN.{getD}
+use mathlib.Core.Path.{ap, _∙_}
+use Prim.Native.Nat.{ℕ}
 use native.Mathlib.Omega.{arith}
 use borrow.Author.Needs.{needs}
 use denote.Ref.{now}
-use Rattle.words.specs.Layout.{copyN, put-copy, off-is}
+use Rattle.words.specs.Layout.{put-copy, off-is}
 use Rattle.words.proofs.cell.copy16.Statement.{statement}
 use Rattle.words.proofs.cell.copy16.Tie as tie
 use Rattle.words.proofs.cell.copy16.Reads as reads

@@ -1,7 +1,7 @@
-use lib.ListN.{length, length-set, getD}
+use lib.ListN.{length, length-set}
 use native.Mathlib.Numerals.{add-one}
-use mathlib.Core.Path.{_≡_, refl, sym, ap, _∙_}
-use Prim.Native.Nat.{ℕ, _≤_, _-_, _+_, _<_}
+use mathlib.Core.Path.{_≡_, refl}
+use Prim.Native.Nat.{_≤_, _-_}
 use native.Mathlib.Omega.{arith}
 use Rattle.words.specs.Layout.{putN}
 use Rattle.words.proofs.cell.put15.Statement.{statement}

@@ -1,16 +1,18 @@
 -- An admitted chunk that is reachable has an instruction, a signature and its parameters.
 use Prim.Native.Nat.{ℕ, zero, suc, _<_}
 use native.Mathlib.Omega.{arith}
-use mathlib.Core.Path.{_≡_, refl, sym, ap, _∙_}
-use mathlib.Core.Bool.{Bool, true, false, not, cond, _&&_, _||_}
-use mathlib.Core.Option.{Option, none, some}
-use mathlib.Core.List.{List, [], _∷_}
+use mathlib.Core.Path.{_≡_, refl, sym, ap}
+use mathlib.Core.Bool.{Bool, true, false, not, cond, _&&_}
+use mathlib.Core.Option.{none, some}
+use mathlib.Core.List.{List, [], _∷_, List·Memᴰ}
 use lib.Dec.{eqb, leb}
 use lib.ListN.{length, getD}
 use borrow.Author.Tests.{eqb-true, leb-false}
 use Rattle.definition.specs.Module.{Module, Chunk}
 use Rattle.definition.specs.Start.{agree, admission, admitted}
+use Rattle.masks.specs.Both.{or-left, or-right}
 use Rattle.goodform.specs.Good.{noChunk}
+use Rattle.goodform.specs.Each.{mem-at}
 
 pub record Admitted (m : Module) (c : Chunk) : Type 0 where
   pub code : 0 < length (c .code)
@@ -21,14 +23,6 @@ not-empty : (n : ℕ) → eqb n 0 ≡ false → 0 < n
 not-empty zero h = let z : _≡_ {A = ℕ} 0 1 = ap (λ (b : Bool). cond b 0 1) h in absurd (omega arith)
 not-empty (suc n) h = omega arith
 
-no-left : (a b : Bool) → (a || b) ≡ false → a ≡ false
-no-left true b h = h
-no-left false b h = refl
-
-no-right : (a b : Bool) → (a || b) ≡ false → b ≡ false
-no-right true b h = cc
-no-right false b h = h
-
 yes : (b : Bool) → not b ≡ false → b ≡ true
 yes true h = refl
 yes false h = sym h
@@ -37,11 +31,11 @@ says : (m : Module) (c : Chunk) → admission m c ≡ 0 → Admitted m c
 unfolding admission
 says m c h =
     let p = go _ (agree (c .tags) (c .params)) h in
-    let q = no-right (leb (m .signatures) (c .number)) _ p in
+    let q = or-right (leb (m .signatures) (c .number)) _ p in
     record {
-      code = not-empty (length (c .code)) (no-left _ _ q);
-      signed = leb-false (m .signatures) (c .number) (no-left _ _ p);
-      params = eqb-true (length (c .params)) (c .arity) (yes _ (no-right (eqb (length (c .code)) 0) _ q));
+      code = not-empty (length (c .code)) (or-left _ _ q);
+      signed = leb-false (m .signatures) (c .number) (or-left _ _ p);
+      params = eqb-true (length (c .params)) (c .arity) (yes _ (or-right (eqb (length (c .code)) 0) _ q));
     }
   where
     go : (a b : Bool) → _≡_ {A = ℕ} (cond a 9 (cond b 0 10)) 0 → a ≡ false
@@ -70,3 +64,6 @@ unfolding admitted
 chunk-admitted m [] n h l r = absurd (omega arith)
 chunk-admitted m (c ∷ cs) zero h l r = says m c (here m c cs h r)
 chunk-admitted m (c ∷ cs) (suc n) h l r = chunk-admitted m cs n (others m c cs h) (omega arith) r
+
+pub all-admitted : (m : Module) (cs : List Chunk) → admitted m cs ≡ none → (c : Chunk) → List·Memᴰ c cs → c .reachable ≡ true → Admitted m c
+all-admitted m cs h c k r = let (n, l, e) = mem-at noChunk cs k in rw (← e) (chunk-admitted m cs n h l (rw e r))

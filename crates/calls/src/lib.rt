@@ -1,1 +1,0 @@
-// A theorem about the table of rules: see specs/.

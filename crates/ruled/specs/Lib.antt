@@ -1,0 +1,4 @@
+pub mod Table
+pub mod Tests
+pub mod Told
+pub mod Faults
