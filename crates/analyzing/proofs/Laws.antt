@@ -11,7 +11,7 @@ use Rattle.answers.specs.declared.Refusal.{Refusal}
 use Rattle.answers.specs.declared.Answer.{Answer}
 use Rattle.answers.specs.declared.Answer.the-variants.{Accepted, Refused}
 use Rattle.le.specs.Wrote.{put}
-use Rattle.le.specs.Laws.{put-start}
+use Rattle.le.proofs.Laws.{put-start}
 use Rattle.definition.specs.Form.{nowhere}
 use Rattle.definition.specs.Module.{moduleOf}
 use Rattle.definition.specs.Leaves.{opened}
@@ -29,7 +29,7 @@ use Rattle.running.specs.declared.Ran.{Ran}
 use Rattle.running.specs.declared.Ran.the-variants.{Done, Stop}
 use Rattle.running.specs.Running.{RanAs, ranIn, EndedBy}
 use Rattle.measuring.specs.Reporting.{Faultless, reportIn}
-use Rattle.faultless.specs.Faultless.{run-faultless}
+use Rattle.faultless.proofs.Faultless.{run-faultless}
 use Rattle.analyzing.specs.Told.{Told}
 
 -- ---- the report, too long for its buffer or written

@@ -1,2 +1,1 @@
 pub mod Cell
-pub mod Single

@@ -17,11 +17,11 @@ use Rattle.definition.specs.Form.{formOf, nowhere}
 use Rattle.definition.specs.Module.{moduleOf}
 use Rattle.definition.specs.Call.{turned, decided, decide, turnedBack, outcomeOf, call}
 use Rattle.goodform.specs.Good.{Good, wordsOf}
-use Rattle.goodform.specs.Theorem.{good-form}
+use Rattle.goodform.proofs.Theorem.{good-form}
 use Rattle.course.specs.Course.{roomIn}
-use Rattle.consistent.specs.Bytes.{demand-3}
-use Rattle.numbers.specs.Forms.{form-numbers}
-use Rattle.numbers.specs.Left.{left-as-was, decided-zero}
+use Rattle.consistent.proofs.Bytes.{demand-3}
+use Rattle.numbers.proofs.Forms.{form-numbers}
+use Rattle.numbers.proofs.Left.{left-as-was, decided-zero}
 use Rattle.room.specs.Room.{roomBy, withRoom, roomOf}
 use Rattle.room.specs.Decides.{onRoom, room-decides, room-fine}
 use Rattle.clearing.specs.Clearing.{cleared, cleared-all}

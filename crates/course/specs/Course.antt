@@ -15,7 +15,7 @@ use Rattle.definition.specs.Start.{admitted, firstFacts, knownOf}
 use Rattle.goodform.specs.Good.{chunkNo, rowCells, wordsOf}
 use Rattle.layout.specs.Layout.{rowsAt, rowAt}
 use Rattle.layout.specs.Indexed.{Indexed}
-use Rattle.layout.specs.Kept.{Steady}
+use Rattle.layout.proofs.Kept.{Steady}
 use Rattle.rows.specs.Leave.{stateIn}
 use Rattle.held.specs.Held.{factsIn, liveIn, knownIn}
 use Rattle.course.specs.declared.Run.{Run}

@@ -1,4 +1,1 @@
 pub mod Course
-pub mod Rows
-pub mod Stays
-pub mod Queues

@@ -12,7 +12,7 @@ use lib.Seq.{getD-set-same, getD-set-other}
 use Rattle.cells.specs.declared.Cell.{Cell}
 use Rattle.cells.specs.Cell.{unitCell}
 use Rattle.words.specs.Layout.{cellAt}
-use Rattle.words.specs.Laws.{cellAt-same}
+use Rattle.words.proofs.Laws.{cellAt-same}
 use Rattle.words.specs.Rows.{cellsAt}
 use Rattle.ring.specs.declared.Queue.{Queue}
 use Rattle.ring.specs.Ring.{Ready, capOf, queueOf, pushed, grown, entries-push, push-below, length-pushed}
@@ -20,7 +20,7 @@ use Rattle.definition.specs.Machine.{Machine}
 use Rattle.definition.specs.Module.{Module, Chunk, row, moduleOf}
 use Rattle.definition.specs.State.{State, Live}
 use Rattle.definition.specs.Start.{filled, start}
-use Rattle.goodform.specs.Each.{row-at}
+use Rattle.goodform.proofs.Each.{row-at}
 use Rattle.goodform.specs.Good.{chunkNo, rowCells, wordsOf}
 use Rattle.layout.specs.declared.Chunk.{Chunk as ChunkNumbers}
 use Rattle.layout.specs.Layout.{areaOf, inputAt, rowsAt, rowAt, localAt}
@@ -28,16 +28,16 @@ use Rattle.layout.specs.declared.Tables.{Tables}
 use Rattle.layout.specs.Indexed.{tablesOf, chunkAt}
 use Rattle.layout.specs.Read.{row-known}
 use Rattle.layout.specs.Apart.{by-order, areas-behind, slots-first, inputs-first, result-begins, result-next, rows-begin, row-apart, row-begins, row-before, row-in, rows-in}
-use Rattle.layout.specs.Kept.{Steady}
+use Rattle.layout.proofs.Kept.{Steady}
 use Rattle.rows.specs.Leave.{stateBy, stateIn}
 use Rattle.held.specs.Held.{factsIn, liveIn}
 use Rattle.course.specs.declared.Run.{Run}
 use Rattle.course.specs.Course.{statesIn, pastIn, machineIn, Low, LowBefore, Queued, Prepared, Between, RowsOnly}
-use Rattle.goodform.specs.Admitted.{chunk-admitted}
-use Rattle.course.specs.Queues.{queued-push}
-use Rattle.course.specs.Rows.{row-set, stateAt, past-kept, low-before-kept}
-use Rattle.course.specs.Stays.{inputs-end, rows-live, rows-prepared}
-use Rattle.goodform.specs.Tests.{ne-pos}
+use Rattle.goodform.proofs.Admitted.{chunk-admitted}
+use Rattle.course.proofs.Queues.{queued-push}
+use Rattle.course.proofs.Rows.{row-set, stateAt, past-kept, low-before-kept}
+use Rattle.course.proofs.Stays.{inputs-end, rows-live, rows-prepared}
+use Rattle.goodform.proofs.Tests.{ne-pos}
 use Rattle.entering.specs.Rows.{RowsThere, Cleared, LocalsThere, Filled, firstCell}
 
 -- the machine where the chunk c is entered

@@ -2,4 +2,3 @@ pub mod Entering
 pub mod Reach
 pub mod Rows
 pub mod Began
-pub mod Rounds

@@ -12,7 +12,7 @@ use Rattle.definition.specs.Res.{Res}
 use Rattle.definition.specs.Machine.{Joined, Effect, Where, due, enter}
 use Rattle.definition.specs.Module.{Chunk, row, moduleOf}
 use Rattle.definition.specs.State.{State}
-use Rattle.goodform.specs.Each.{suc-out}
+use Rattle.goodform.proofs.Each.{suc-out}
 use Rattle.goodform.specs.Good.{noChunk, chunkNo}
 use Rattle.layout.specs.declared.Tables.{Tables}
 use Rattle.layout.specs.declared.Chunk.{Chunk as ChunkNumbers}

@@ -13,9 +13,9 @@ use lib.Seq.{getD-set-same, getD-set-other}
 use Rattle.cells.specs.declared.Cell.{Cell}
 use Rattle.cells.specs.Cell.{unitCell}
 use Rattle.words.specs.Layout.{cellAt, putCell, copyN, Fit}
-use Rattle.words.specs.Laws.{cellAt-put, cellAt-copy}
+use Rattle.words.proofs.Laws.{cellAt-put, cellAt-copy}
 use Rattle.words.specs.Rows.{Outside}
-use Rattle.words.specs.RowLaws.{outside-refl, outside-trans, outside-widen, outside-put, outside-copy, cellAt-outside}
+use Rattle.words.proofs.RowLaws.{outside-refl, outside-trans, outside-widen, outside-put, outside-copy, cellAt-outside}
 use Rattle.layout.specs.declared.Chunk.{Chunk}
 use Rattle.layout.specs.Layout.{localAt}
 use Rattle.layout.specs.Apart.{by-order}

@@ -1,2 +1,1 @@
 pub mod Factlist
-pub mod Listed

@@ -17,9 +17,9 @@ use Rattle.definition.specs.Module.{moduleOf}
 use Rattle.definition.specs.Call.{call}
 use Rattle.reading.specs.Read.{readReport}
 use Rattle.consistent.specs.Consistent.{Consistent}
-use Rattle.goodform.specs.Theorem.{good-form}
+use Rattle.goodform.proofs.Theorem.{good-form}
 use Rattle.find.specs.declared.Part.{Part}
-use Rattle.numbers.specs.Calls.{refused-numbers}
+use Rattle.numbers.proofs.Calls.{refused-numbers}
 use Rattle.checking.specs.Checked.{Checked}
 use Rattle.facts_c.specs.Called.{inWords, CallOf, formNumber, leastWords, WordsOf, PartOf}
 

@@ -10,20 +10,20 @@ use lib.Pow.{pow-lt}
 use lib.ListN.{length, getD}
 use Rattle.description.specs.declared.Header.{Header}
 use Rattle.description.specs.Fields.{tagAt, nextAt, headerOf, fieldsFrom}
-use Rattle.description.specs.Walk.{next-after, fields-turn, fields-end}
+use Rattle.description.proofs.Walk.{next-after, fields-turn, fields-end}
 use Rattle.reader.specs.Reading.{after}
-use Rattle.reader.specs.Laws.{after-within, fields-after}
+use Rattle.reader.proofs.Laws.{after-within, fields-after}
 use Rattle.definition.specs.Module.{codeAfter, chunksFrom}
 use Rattle.goodform.specs.Good.{Good}
 use Rattle.layout.specs.declared.Tables.{Tables}
 use Rattle.layout.specs.Indexed.{tablesOf, Indexed, Fresh}
 use Rattle.filled.specs.declared.Work.{Work}
 use Rattle.filled.specs.Model.{areas, oneMore, firstTables, firstWork, codeWords, codeWork, slotWords, tablesAfter, wordsAfter, wordsFrom, tablesFrom}
-use Rattle.filled.specs.Room.{Room, areasIn, area-of, room-after}
-use Rattle.filled.specs.Keep.{due}
-use Rattle.filled.specs.AtWork.{length-after}
-use Rattle.filled.specs.Begin.{fieldsOf, room-first}
-use Rattle.filled.specs.Filled.{tables-hold, index-holds, all-fresh}
+use Rattle.filled.proofs.Room.{Room, areasIn, area-of, room-after}
+use Rattle.filled.proofs.Keep.{due}
+use Rattle.filled.proofs.AtWork.{length-after}
+use Rattle.filled.proofs.Begin.{fieldsOf, room-first}
+use Rattle.filled.proofs.Filled.{tables-hold, index-holds, all-fresh}
 use Rattle.filling.specs.Fits.{ForChunk, ForInstr, ForCode, ForSlots}
 
 -- the walk from here on gives what the whole walk gives

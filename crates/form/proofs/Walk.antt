@@ -8,9 +8,9 @@ use borrow.Author.Tests.{le-ltb}
 use lib.ListN.{length}
 use Rattle.answers.specs.declared.Refusal.{Refusal}
 use Rattle.description.specs.Fields.{nextAt, fieldsFrom}
-use Rattle.description.specs.Walk.{fields-turn, fields-end}
+use Rattle.description.proofs.Walk.{fields-turn, fields-end}
 use Rattle.reader.specs.Reading.{after}
-use Rattle.reader.specs.Laws.{after-next}
+use Rattle.reader.proofs.Laws.{after-next}
 use Rattle.definition.specs.declared.Scan.{Scan}
 use Rattle.definition.specs.declared.Step.the-variants.{Go, Stop}
 use Rattle.definition.specs.declared.Form.{Form}

@@ -4,8 +4,8 @@ use mathlib.Core.Bool.{Bool, true, false, cond, _&&_, _||_}
 use mathlib.Core.List.{List, _∷_}
 use Prim.Native.Nat.{ℕ, _+_, _-_, _<_, _≤_}
 use native.Mathlib.Omega.{arith}
-use Rattle.masks.specs.Both.{both}
-use Rattle.goodform.specs.Faults.{HeaderFine, header-fine, ChunkFine, chunk-fine, instr-fine}
+use Rattle.masks.proofs.Both.{both}
+use Rattle.goodform.proofs.Faults.{HeaderFine, header-fine, ChunkFine, chunk-fine, instr-fine}
 use borrow.Author.Tests.{lt-ltb, ltb-true, ltb-false, eqb-true, ne-eqb}
 use lib.ListN.{length}
 use lib.Dec.{eqb, ltb, leb}
@@ -13,7 +13,7 @@ use Rattle.answers.specs.declared.Refusal.{Refusal}
 use Rattle.description.specs.declared.Header.{Header}
 use Rattle.description.specs.declared.ChunkHead.{ChunkHead}
 use Rattle.description.specs.Fields.{tagAt, lenAt, nextAt, headerOf, chunkOf, instrOf}
-use Rattle.description.specs.Walk.{next-after}
+use Rattle.description.proofs.Walk.{next-after}
 use Rattle.definition.specs.declared.Scan.{Scan}
 use Rattle.definition.specs.declared.Step.{Step}
 use Rattle.definition.specs.declared.Step.the-variants.{Go, Stop}

@@ -1,16 +1,2 @@
-pub mod Places
 pub mod Order
 pub mod Good
-pub mod Tests
-pub mod Each
-pub mod Chunks
-pub mod Placed
-pub mod Faults
-pub mod Walk
-pub mod Front
-pub mod Sums
-pub mod Tables
-pub mod Late
-pub mod Ordered
-pub mod Theorem
-pub mod Admitted

@@ -1,4 +1,2 @@
 pub mod Held
-pub mod Args
 pub mod Slots
-pub mod Visits

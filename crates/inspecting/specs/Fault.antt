@@ -10,7 +10,7 @@ use borrow.Author.Tests.{eqb-true, eq-eqb, ne-eqb, ltb-false, le-ltb}
 use lib.Dec.{eqb, ltb}
 use lib.ListN.{length, getD}
 use Rattle.answers.specs.declared.Refusal.{Refusal}
-use Rattle.masks.specs.Both.{never, or-left, or-right}
+use Rattle.masks.proofs.Both.{never, or-left, or-right}
 use Rattle.masks.specs.Mask.{has, same}
 use Rattle.masks.specs.Names.{STRUCT, ENUM}
 use Rattle.extents.specs.Extent.{extentMinimum}
@@ -36,8 +36,8 @@ use Rattle.layout.specs.Indexed.{Indexed, chunkAt}
 use Rattle.layout.specs.Read.{row-is, row-known}
 use Rattle.rows.specs.Leave.{stateBy, stateIn}
 use Rattle.course.specs.Course.{statesIn, Low}
-use Rattle.course.specs.Rows.{stateAt}
-use Rattle.ruled.specs.Table.{every-rule}
+use Rattle.course.proofs.Rows.{stateAt}
+use Rattle.ruled.proofs.Table.{every-rule}
 
 -- ---- which instructions inspect: 40 for ENUM, 41 for STRUCT
 abbrev enumFault : Cell → ℕ

@@ -1,2 +1,1 @@
 pub mod Arrive
-pub mod Laws

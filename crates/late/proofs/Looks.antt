@@ -6,14 +6,14 @@ use Prim.Native.Nat.{ℕ, zero, suc, _+_, _-_, _<_, _≤_}
 use native.Mathlib.Numerals.{add-one}
 use native.Mathlib.Nat.{add-zero, zero-add, add-suc, suc-add, sub-zero}
 use native.Mathlib.Omega.{arith}
-use Rattle.masks.specs.Both.{both}
+use Rattle.masks.proofs.Both.{both}
 use borrow.Author.Tests.{lt-ltb, le-ltb, ltb-true, ltb-false, eq-eqb, ne-eqb, eqb-true}
 use lib.Dec.{eqb, ltb}
 use lib.ListN.{length, getD, set, replicate, length-set, length-replicate, List·getD-eq-default}
 use lib.Seq.{sets, length-sets, set-out, getD-set-same, getD-set-other}
 use Rattle.answers.specs.declared.Refusal.{Refusal}
 use Rattle.description.specs.Fields.{tagAt, nextAt, fieldsFrom, ofTag, instrOf}
-use Rattle.description.specs.Walk.{fields-turn, fields-end}
+use Rattle.description.proofs.Walk.{fields-turn, fields-end}
 use Rattle.definition.specs.Module.{signedParams}
 use Rattle.definition.specs.Form.{nowhere, parameters, lateFault, lateLook}
 use Rattle.late.specs.Counted.{counted, paramList, paramTable}

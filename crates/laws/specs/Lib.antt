@@ -1,8 +1,2 @@
 pub mod Join
-pub mod Flat
-pub mod Lists
-pub mod Masks
-pub mod Extents
-pub mod Flows
-pub mod Cells
 pub mod Marked

@@ -2,4 +2,3 @@ pub mod Layout
 pub mod Indexed
 pub mod Apart
 pub mod Read
-pub mod Kept

@@ -1,3 +1,2 @@
 pub mod Le
 pub mod Wrote
-pub mod Laws

@@ -6,7 +6,7 @@ use native.Mathlib.Nat.{not-suc-le-zero, le-of-suc-le-suc}
 use native.Mathlib.Omega.{arith, min-cases}
 use lib.ListN.{length, set, length-append, length-set}
 use Rattle.le.specs.Wrote.{put}
-use Rattle.le.specs.Laws.{put-put, length-put}
+use Rattle.le.proofs.Laws.{put-put, length-put}
 
 -- bs stand from the place on; r is the place after them, or the end of the buffer where they don't fit
 pub record Laid (l : List ℕ) (at : ℕ) (bs l′ : List ℕ) (r : ℕ) : Type 0 where

@@ -1,5 +1,4 @@
 pub mod Decimal
 pub mod Listing
 pub mod Laid
-pub mod Turns
 pub mod Worked

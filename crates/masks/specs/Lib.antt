@@ -1,3 +1,2 @@
 pub mod Mask
-pub mod Both
 pub mod Names

@@ -20,12 +20,12 @@ use Rattle.definition.specs.State.{State}
 use Rattle.definition.specs.Outputs.{noCell}
 use Rattle.definition.specs.Start.{knownOf}
 use Rattle.definition.specs.Report.{signaturesFrom, slotCells, recordOf, inspectionOf, branchOf, fromState, fromStates, fromChunks, reportOf, field, signatureBytes, slotBytes, recordBytes, inspectionBytes, branchBytes, each, reportBytes}
-use Rattle.goodform.specs.Each.{suc-out, row-at}
+use Rattle.goodform.proofs.Each.{suc-out, row-at}
 use Rattle.goodform.specs.Good.{noChunk, chunkNo}
 use Rattle.layout.specs.Layout.{slotAt, inputAt, resultAt}
 use Rattle.held.specs.Held.{factsIn}
 use Rattle.course.specs.Course.{statesIn, pastIn, finalIn, knownAs}
-use Rattle.course.specs.Rows.{stateAt}
+use Rattle.course.proofs.Rows.{stateAt}
 use Rattle.measuring.specs.Reporting.{reportIn}
 use Rattle.measuring.specs.Span.{spread, span, span-same}
 

@@ -14,7 +14,7 @@ use Rattle.ops.specs.declared.Makes.the-variants.{Anything, Constant, Immediate
 use Rattle.ops.specs.declared.Others.{Others}
 use Rattle.ops.specs.declared.Others.the-variants.{Unknowns, Words, Checked, Copies, Tested, Status}
 use Rattle.words.specs.Layout.{cellAt}
-use Rattle.words.specs.Laws.{cellAt-fit}
+use Rattle.words.proofs.Laws.{cellAt-fit}
 use Rattle.words.specs.Rows.{cellsAt}
 use Rattle.definition.specs.Module.{Module, Site, Native, row, moduleOf}
 use Rattle.definition.specs.State.{Facts}
@@ -22,12 +22,12 @@ use Rattle.definition.specs.Data.{isBody, flowIn, privateCell, readSlots}
 use Rattle.definition.specs.Outputs.{Visit, instr, at, withPredicate, withOrigin, constantCell, fieldCell, nativeCell, replyShape, replyCell, compositeCell, firstOutput, secondOutput, restOutput, tested, madeFrom, outputs, output}
 use Rattle.definition.specs.Leaves.{visitOf}
 use Rattle.definition.specs.Report.{cellBytes}
-use Rattle.carried.specs.All.{All, nil, cons, all-get}
-use Rattle.reading.specs.Cells.{cell-long}
-use Rattle.reading.specs.Kept.{flow-none, cell-made, cell-fresh, cell-none, cell-construction, joined-long}
+use Rattle.carried.proofs.All.{All, nil, cons, all-get}
+use Rattle.reading.proofs.Cells.{cell-long}
+use Rattle.reading.proofs.Kept.{flow-none, cell-made, cell-fresh, cell-none, cell-construction, joined-long}
 use Rattle.held.specs.declared.Visit.{Visit as Look}
 use Rattle.held.specs.Held.{Looking, argsIn, factsIn, stateOf, visitIn}
-use Rattle.held.specs.Visits.{args-are}
+use Rattle.held.proofs.Visits.{args-are}
 
 abbrev FourIn : Flow → Type 0
 FourIn f = length (f .bodies) ≡ 4

@@ -5,5 +5,4 @@ pub mod Adds
 pub mod Beside
 pub mod Long
 pub mod Here
-pub mod Guards
 pub mod Measured

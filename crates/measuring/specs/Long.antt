@@ -18,15 +18,15 @@ use Rattle.definition.specs.Leaves.{lineAt}
 use Rattle.definition.specs.Report.{Record, placed, recordFrom, recordOf, fromState, each, cellBytes, cellsBytes, outputsBytes, guardsBytes, countsBytes, recordBytes, signatureBytes, slotBytes}
 use Rattle.goodform.specs.Good.{chunkNo, lineNo}
 use Rattle.layout.specs.Layout.{rowAt, inputAt, resultAt, slotAt}
-use Rattle.reading.specs.Has.{long16}
-use Rattle.reading.specs.Back.{recordIn, guards-long}
+use Rattle.reading.proofs.Has.{long16}
+use Rattle.reading.proofs.Back.{recordIn, guards-long}
 use Rattle.rows.specs.Leave.{stateBy, stateIn}
 use Rattle.held.specs.declared.Visit.{Visit as Look}
 use Rattle.held.specs.Held.{Looking, knownIn, stateOf, visitIn}
 use Rattle.course.specs.Course.{knownAs}
-use Rattle.course.specs.Rows.{stateAt}
-use Rattle.looking.specs.Parts.{ins-is}
-use Rattle.reading.specs.Walk.{field-long}
+use Rattle.course.proofs.Rows.{stateAt}
+use Rattle.looking.proofs.Parts.{ins-is}
+use Rattle.reading.proofs.Walk.{field-long}
 use Rattle.measuring.specs.Four.{Four, four-at, four-long, looked-four}
 use Rattle.measuring.specs.Adds.{bareAt, signatureAt, privateAt, added, recordAt}
 

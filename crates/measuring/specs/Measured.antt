@@ -17,7 +17,7 @@ use Rattle.layout.specs.declared.Chunk.{Chunk as ChunkNumbers}
 use Rattle.layout.specs.Layout.{rowAt}
 use Rattle.layout.specs.Indexed.{Indexed}
 use Rattle.layout.specs.Read.{locals-is}
-use Rattle.reading.specs.Back.{recordIn}
+use Rattle.reading.proofs.Back.{recordIn}
 use Rattle.rows.specs.Leave.{stateBy, stateIn}
 use Rattle.held.specs.declared.Visit.{Visit as Look}
 use Rattle.held.specs.Held.{Looking, visitIn}
@@ -25,7 +25,7 @@ use Rattle.measuring.specs.Reporting.{reportIn}
 use Rattle.measuring.specs.Span.{span, cut, span-both, span-alike, span-each, span-cut}
 use Rattle.measuring.specs.Adds.{signatureAt, privateAt, added, recordAt, inspectionAt, branchAt, addedFor, recordable, chunkFor, chunksFor, report-added}
 use Rattle.telling.specs.Told.{falseIn, decidedIn, wayIn}
-use Rattle.reading.specs.Walk.{field-long}
+use Rattle.reading.proofs.Walk.{field-long}
 use Rattle.measuring.specs.Beside.{inspection-told, branch-told}
 use Rattle.measuring.specs.Long.{visitRecord, private-long, record-is, contents-long}
 use Rattle.measuring.specs.Here.{Finished, Here, Visits, numbers-here, row-of}

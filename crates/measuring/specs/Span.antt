@@ -8,7 +8,7 @@ use mathlib.Core.List.{List, [], _++_, append-assoc, append-nil}
 use lib.Dec.{ltb}
 use lib.ListN.{length, length-append}
 use borrow.Author.Tests.{lt-ltb, le-ltb}
-use Rattle.goodform.specs.Each.{suc-out}
+use Rattle.goodform.proofs.Each.{suc-out}
 
 -- n numbers from i on
 unfoldable pub spread : (ℕ → List ℕ) → ℕ → ℕ → List ℕ

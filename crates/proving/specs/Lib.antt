@@ -1,5 +1,1 @@
 pub mod Proving
-pub mod Fine
-pub mod Wanted
-pub mod Checked
-pub mod Found

@@ -1,8 +1,1 @@
 pub mod Read
-pub mod Has
-pub mod Cells
-pub mod Walk
-pub mod Back
-pub mod Kept
-pub mod Runs
-pub mod Reports

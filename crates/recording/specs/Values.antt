@@ -8,7 +8,7 @@ use Rattle.description.specs.declared.Instr.{Instr}
 use Rattle.le.specs.Le.{le16}
 use Rattle.words.specs.Layout.{cellAt}
 use Rattle.words.specs.Rows.{cellsAt}
-use Rattle.words.specs.RowLaws.{cellsAt-length}
+use Rattle.words.proofs.RowLaws.{cellsAt-length}
 use Rattle.definition.specs.Module.{row, moduleOf}
 use Rattle.definition.specs.Outputs.{instr, output, outputs}
 use Rattle.definition.specs.Wants.{guards}
@@ -21,17 +21,17 @@ use Rattle.layout.specs.Layout.{inputAt, resultAt}
 use Rattle.layout.specs.Indexed.{Indexed, chunkAt}
 use Rattle.layout.specs.Apart.{result-in}
 use Rattle.layout.specs.Read.{row-small, count-is, params-is, locals-is, stack-is}
-use Rattle.reading.specs.Back.{recordIn, guards-long}
+use Rattle.reading.proofs.Back.{recordIn, guards-long}
 use Rattle.held.specs.declared.Visit.{Visit as Look}
 use Rattle.held.specs.Held.{Looking, knownIn, stateOf, visitIn}
-use Rattle.held.specs.Visits.{row-there, looking-standing, below-long}
+use Rattle.held.proofs.Visits.{row-there, looking-standing, below-long}
 use Rattle.course.specs.Course.{knownAs}
-use Rattle.looking.specs.Parts.{ins-is}
+use Rattle.looking.proofs.Parts.{ins-is}
 use Rattle.measuring.specs.Four.{looked-four}
 use Rattle.measuring.specs.Adds.{signatureAt, recordAt}
 use Rattle.measuring.specs.Long.{cells-long, outputs-long, placed-many, signature-long, visitRecord, record-is, contents-long}
 use Rattle.measuring.specs.Here.{Finished, Here, Visits, numbers-here}
-use Rattle.reading.specs.Walk.{field-long}
+use Rattle.reading.proofs.Walk.{field-long}
 use Rattle.recording.specs.Writes.{cells-more}
 
 -- ---- a record

@@ -9,18 +9,18 @@ use Rattle.widths.specs.declared.Width.the-variants.{Unknown as Wide}
 use Rattle.cells.specs.declared.Cell.{Cell}
 use Rattle.le.specs.Le.{le16}
 use Rattle.le.specs.Wrote.{put, Wrote}
-use Rattle.le.specs.Laws.{and-then, resize, same-length}
+use Rattle.le.proofs.Laws.{and-then, resize, same-length}
 use Rattle.words.specs.Layout.{cellAt}
 use Rattle.words.specs.Rows.{cellsAt}
-use Rattle.words.specs.RowLaws.{cellsAt-append, cellsAt-one}
+use Rattle.words.proofs.RowLaws.{cellsAt-append, cellsAt-one}
 use Rattle.definition.specs.Module.{row}
 use Rattle.definition.specs.Report.{placed, field, cellBytes, cellsBytes, outputsBytes, slotBytes}
-use Rattle.goodform.specs.Each.{suc-out}
-use Rattle.putting.specs.Laws.{said}
+use Rattle.goodform.proofs.Each.{suc-out}
+use Rattle.putting.proofs.Laws.{said}
 use Rattle.measuring.specs.Span.{span, span-none, span-more, span-room}
 use Rattle.measuring.specs.Four.{four-at, four-long}
 use Rattle.measuring.specs.Adds.{bareAt}
-use Rattle.reading.specs.Walk.{field-long}
+use Rattle.reading.proofs.Walk.{field-long}
 
 -- the slot k of a module with so many chunks
 unfoldable pub slotFrom : List ℕ → ℕ → ℕ → List ℕ

@@ -15,8 +15,8 @@ use Rattle.definition.specs.Data.{dataFault}
 use Rattle.definition.specs.Leaves.{hopeless, nothingBelow, always}
 use Rattle.held.specs.declared.Visit.{Visit as Look}
 use Rattle.held.specs.Held.{Looking, visitIn}
-use Rattle.held.specs.Visits.{below-long}
-use Rattle.looking.specs.Parts.{code-is, ins-is, rule-is}
+use Rattle.held.proofs.Visits.{below-long}
+use Rattle.looking.proofs.Parts.{code-is, ins-is, rule-is}
 
 -- a field read of a boxed field, or no rule at all
 unfoldable pub hopelessBy : Asks → ℕ → Bool

@@ -11,7 +11,7 @@ use Rattle.definition.specs.declared.Form.the-variants.{Fine, Refused}
 use Rattle.definition.specs.Form.{formOf, nowhere}
 use Rattle.definition.specs.Module.{moduleOf}
 use Rattle.definition.specs.Call.{Decided, turned, decided, onForm, decide}
-use Rattle.masks.specs.Both.{never}
+use Rattle.masks.proofs.Both.{never}
 use Rattle.room.specs.Room.{withRoom, roomBy, roomOf}
 
 -- what is decided after the form and the room were looked at

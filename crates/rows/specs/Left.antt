@@ -11,7 +11,7 @@ use borrow.Author.Tests.{eq-eqb, ne-eqb, eqb-true, eqb-false, not-true}
 use lib.Dec.{eqb}
 use lib.ListN.{length, getD, set, length-append, length-map}
 use lib.Seq.{set-out, set-at, getD-set-same}
-use Rattle.masks.specs.Both.{both}
+use Rattle.masks.proofs.Both.{both}
 use Rattle.cells.specs.declared.Cell.{Cell}
 use Rattle.cells.specs.Cell.{narrowEnum, unitCell}
 use Rattle.definition.specs.Module.{row}
@@ -21,9 +21,9 @@ use Rattle.definition.specs.Ways.{outputList, resetFirst}
 use Rattle.layout.specs.declared.Chunk.{Chunk}
 use Rattle.words.specs.Layout.{cellAt}
 use Rattle.words.specs.Rows.{cellsAt, Outside}
-use Rattle.words.specs.RowLaws.{cellsAt-length, cellsAt-getD, cellsAt-append, cellsAt-outside, outside-refl, outside-trans, outside-widen, outside-set}
+use Rattle.words.proofs.RowLaws.{cellsAt-length, cellsAt-getD, cellsAt-append, cellsAt-outside, outside-refl, outside-trans, outside-widen, outside-set}
 use Rattle.keep.specs.Arrive.{nowhere, keptCell, arrive, moves, Arrived, Places}
-use Rattle.keep.specs.Laws.{arrived-more, map-append, row-length}
+use Rattle.keep.proofs.Laws.{arrived-more, map-append, row-length}
 use Rattle.rows.specs.Leave.{keptLocals, keptStack, narrowedLocal, setOnWay, leavesKept, leavesReset, leavesAs, stateBy, stateIn, metState, metHow, metWord, rowWords, Ready}
 use Rattle.rows.specs.declared.joining.Leaving.{Leaving}
 use Rattle.rows.specs.declared.joining.SetLocal.{SetLocal}

@@ -10,7 +10,7 @@ use borrow.Author.Tests.{eq-eqb, ne-eqb}
 use lib.Dec.{eqb, ltb}
 use lib.ListN.{length, getD, set, length-set, length-map}
 use lib.Seq.{set-out}
-use Rattle.masks.specs.Both.{both}
+use Rattle.masks.proofs.Both.{both}
 use Rattle.flows.specs.declared.Origin.{Origin}
 use Rattle.flows.specs.declared.Origin.the-variants.{Nowhere}
 use Rattle.cells.specs.declared.Cell.{Cell}
@@ -24,9 +24,9 @@ use Rattle.definition.specs.Ways.{isFrom, narrowStack, narrowed, forget, setLoc
 use Rattle.layout.specs.declared.Chunk.{Chunk}
 use Rattle.words.specs.Layout.{cellAt}
 use Rattle.words.specs.Rows.{cellsAt, Outside}
-use Rattle.words.specs.RowLaws.{cellsAt-length, cellsAt-outside}
+use Rattle.words.proofs.RowLaws.{cellsAt-length, cellsAt-outside}
 use Rattle.keep.specs.Arrive.{nowhere, keptCell}
-use Rattle.keep.specs.Laws.{sameCells-sound, map-append}
+use Rattle.keep.proofs.Laws.{sameCells-sound, map-append}
 use Rattle.rows.specs.Leave.{keptLocals, keptStack, narrowedLocal, setOnWay, leavesKept, leavesReset, leavesAs, stateBy, stateIn, metState, metHow}
 use Rattle.rows.specs.declared.joining.Leaving.{Leaving}
 use Rattle.rows.specs.declared.joining.SetLocal.{SetLocal}

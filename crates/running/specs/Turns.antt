@@ -17,7 +17,7 @@ use Rattle.goodform.specs.Good.{chunkNo, wordsOf}
 use Rattle.held.specs.Held.{liveIn}
 use Rattle.course.specs.declared.Run.{Run}
 use Rattle.course.specs.Course.{statesIn, pastIn, workIn, seenIn, machineIn, roomIn, knownAs}
-use Rattle.course.specs.Queues.{queue-length}
+use Rattle.course.proofs.Queues.{queue-length}
 use Rattle.taking.specs.Taking.{takingOf}
 
 -- the machine's functions, with the rules of the definition

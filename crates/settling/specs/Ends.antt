@@ -25,7 +25,7 @@ use Rattle.entering.specs.Entering.{whereIn, Goes, Opened}
 use Rattle.entering.specs.Reach.{Reached, past-more}
 use Rattle.entering.specs.Began.{Began}
 use Rattle.inspecting.specs.Fault.{Inspected}
-use Rattle.entering.specs.Rounds.{enters-due, enters-end, low-reached}
+use Rattle.entering.proofs.Rounds.{enters-due, enters-end, low-reached}
 use Rattle.settling.specs.Settling.{Onward}
 
 abbrev pub endingIn : List ℕ → ℕ → Bool → Live → List (List (Option State)) → Where Chunk Live Facts State

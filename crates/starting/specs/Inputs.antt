@@ -11,9 +11,9 @@ use Rattle.widths.specs.declared.Shape.{Shape}
 use Rattle.cells.specs.declared.Cell.{Cell}
 use Rattle.cells.specs.Cell.{declared}
 use Rattle.words.specs.Layout.{cellAt, putCell, Fit}
-use Rattle.words.specs.Laws.{cellAt-put}
+use Rattle.words.proofs.Laws.{cellAt-put}
 use Rattle.words.specs.Rows.{cellsAt, Outside}
-use Rattle.words.specs.RowLaws.{outside-refl, outside-trans, outside-widen, outside-put, cellAt-outside, cellsAt-outside}
+use Rattle.words.proofs.RowLaws.{outside-refl, outside-trans, outside-widen, outside-put, cellAt-outside, cellsAt-outside}
 use Rattle.definition.specs.Module.{Module, moduleOf}
 use Rattle.definition.specs.Start.{declaredParams}
 use Rattle.goodform.specs.Good.{chunkNo, noShape, wordsOf}
@@ -22,8 +22,8 @@ use Rattle.layout.specs.Layout.{areaOf, inputAt, resultAt, rowsAt}
 use Rattle.layout.specs.Indexed.{Indexed, chunkAt}
 use Rattle.layout.specs.Apart.{by-order, inputs-begin, result-begins, result-next, rows-in-area, rows-in, area-apart, input-in, result-in}
 use Rattle.layout.specs.Read.{input-is, result-is, params-is}
-use Rattle.layout.specs.Kept.{Steady, facts-free, steady-free, steady-refl, steady-trans}
-use Rattle.course.specs.Stays.{inputs-end}
+use Rattle.layout.proofs.Kept.{Steady, facts-free, steady-free, steady-refl, steady-trans}
+use Rattle.course.proofs.Stays.{inputs-end}
 
 -- ---- what is written
 -- the first k inputs of the chunk c

@@ -1,4 +1,3 @@
 pub mod Starting
 pub mod Inputs
-pub mod Replies
 pub mod Settled

@@ -19,28 +19,28 @@ use Rattle.flows.specs.Flow.{noFlow, maximumOf}
 use Rattle.cells.specs.declared.Cell.{Cell}
 use Rattle.cells.specs.Cell.{declared}
 use Rattle.words.specs.Layout.{cellAt, putCell, Fit}
-use Rattle.words.specs.Laws.{cellAt-put}
+use Rattle.words.proofs.Laws.{cellAt-put}
 use Rattle.words.specs.Rows.{Outside}
-use Rattle.words.specs.RowLaws.{outside-trans, outside-widen, outside-put, cellAt-outside, cellsAt-outside}
+use Rattle.words.proofs.RowLaws.{outside-trans, outside-widen, outside-put, cellAt-outside, cellsAt-outside}
 use Rattle.definition.specs.Module.{Module, Chunk, row, moduleOf}
 use Rattle.definition.specs.Leaves.{opened}
 use Rattle.definition.specs.Start.{admitted, declaredParams, initMask, firstFacts, overfull, replyCell, bounded, replyMaximum, hasSite, suspendLoop, suspends, knownOf}
 use Rattle.definition.specs.Call.{turned, admittedRun, onReply, known, onAdmitted, decided}
-use Rattle.goodform.specs.Each.{row-length}
+use Rattle.goodform.proofs.Each.{row-length}
 use Rattle.goodform.specs.Good.{noChunk, chunkNo, wordsOf}
 use Rattle.layout.specs.declared.Tables.{Tables}
 use Rattle.layout.specs.Layout.{areaOf, slotAt, inputAt, resultAt}
 use Rattle.layout.specs.Indexed.{Indexed, Fresh, tablesOf, suspendsAt}
 use Rattle.layout.specs.Apart.{areas-behind, slots-behind, slots-first, inputs-begin, result-begins, reply-in}
 use Rattle.layout.specs.Read.{shared-are}
-use Rattle.layout.specs.Kept.{Steady, steady-put, steady-trans, reply-free, indexed-steady, indexed-put, suspends-steady}
+use Rattle.layout.proofs.Kept.{Steady, steady-put, steady-trans, reply-free, indexed-steady, indexed-put, suspends-steady}
 use Rattle.held.specs.Held.{factsIn, writesIn, liveIn, knownIn}
 use Rattle.course.specs.Course.{Prepared, knownAs}
-use Rattle.course.specs.Rows.{row-same}
+use Rattle.course.proofs.Rows.{row-same}
 use Rattle.admitting.specs.Admitting.{found}
-use Rattle.admitting.specs.Chunks.{found-none}
+use Rattle.admitting.proofs.Chunks.{found-none}
 use Rattle.suspending.specs.Suspending.{suspendsIn, Marked}
-use Rattle.suspending.specs.Looks.{marked-indexed}
+use Rattle.suspending.proofs.Looks.{marked-indexed}
 use Rattle.starting.specs.declared.Started.{Started}
 use Rattle.starting.specs.declared.Started.the-variants.{Ready, Refused}
 use Rattle.starting.specs.Starting.{StartedAs}

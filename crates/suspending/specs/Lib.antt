@@ -1,2 +1,1 @@
 pub mod Suspending
-pub mod Looks

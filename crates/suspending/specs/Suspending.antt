@@ -9,7 +9,7 @@ use Rattle.definition.specs.Module.{row, moduleOf}
 use Rattle.definition.specs.Start.{callsOne}
 use Rattle.goodform.specs.Good.{chunkNo}
 use Rattle.layout.specs.Indexed.{suspendsAt}
-use Rattle.layout.specs.Kept.{Kept}
+use Rattle.layout.proofs.Kept.{Kept}
 
 abbrev pub suspendsIn : List ℕ → List ℕ → List Bool
 suspendsIn s ws = row (suspendsAt ws) 0 (length (moduleOf s .chunks))

@@ -26,17 +26,17 @@ use Rattle.definition.specs.declared.Made.{Made}
 use Rattle.definition.specs.State.{State}
 use Rattle.definition.specs.Outputs.{Visit, Setting, noCell, arg, instr, outputs, output, setting, madeFrom, firstOutput, secondOutput, restOutput}
 use Rattle.definition.specs.Ways.{waysOf, narrowing, narrowed, along, onWay, forget, kept, after, afterBy, leavingBy, leaving, outputList, resetFirst}
-use Rattle.goodform.specs.Each.{row-length}
+use Rattle.goodform.proofs.Each.{row-length}
 use Rattle.layout.specs.declared.Chunk.{Chunk}
 use Rattle.keep.specs.Arrive.{nowhere}
 use Rattle.rows.specs.declared.joining.Leaving.{Leaving}
 use Rattle.rows.specs.Leave.{leavesAs, leavesKept, leavesReset}
 use Rattle.rows.specs.Met.{SetAs, leaves-after, leaves-narrowed, leaves-reset-after}
-use Rattle.ways.specs.Still.{narrowed-still, narrowed-after, narrowed-locals, narrowed-test}
+use Rattle.ways.proofs.Still.{narrowed-still, narrowed-after, narrowed-locals, narrowed-test}
 use Rattle.held.specs.declared.Visit.{Visit as Look}
 use Rattle.held.specs.Held.{argsIn}
 use Rattle.passing.specs.Passing.{localsOf, leavesWith, alongIn, condition, passesAll, waysIn}
-use Rattle.ruled.specs.Tests.{Testing}
+use Rattle.ruled.proofs.Tests.{Testing}
 
 -- ---- a test makes nothing that has an origin
 module _ (x : Visit) (e : x .rule ≡ ruleOf (instr x .op)) (to r : ℕ) (h : narrowing (x .rule .exit) (arg x 0 .flow .predicate) (instr x .a) to ≡ some r) where

@@ -6,7 +6,7 @@ use mathlib.Core.Bool.{Bool, cond}
 use mathlib.Core.Option.{none, some}
 use mathlib.Core.List.{List}
 use lib.ListN.{length, getD}
-use Rattle.words.specs.RowLaws.{cellsAt-length}
+use Rattle.words.proofs.RowLaws.{cellsAt-length}
 use Rattle.ring.specs.declared.Queue.{Queue}
 use Rattle.ring.specs.Ring.{queueOf}
 use Rattle.definition.specs.Res.{Res, ok, bad, bind}
@@ -25,7 +25,7 @@ use Rattle.held.specs.declared.Visit.{Visit as Look}
 use Rattle.held.specs.Held.{liveIn, knownIn, Looking, stateOf, visitIn}
 use Rattle.course.specs.declared.Run.{Run}
 use Rattle.course.specs.Course.{statesIn, workIn, roomIn, knownAs}
-use Rattle.course.specs.Rows.{states-at}
+use Rattle.course.proofs.Rows.{states-at}
 
 -- only the rounds add to the facts
 abbrev pub addsOf : Known → ℕ → Bool → Live → Gift → Live

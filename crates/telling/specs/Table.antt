@@ -5,7 +5,7 @@ use mathlib.Core.Path.{_≡_, refl, ap, _∙_}
 use mathlib.Core.Bool.{Bool, true, false, not, cond, _&&_, _||_}
 use lib.Dec.{eqb}
 use borrow.Author.Tests.{eqb-true, ne-eqb}
-use Rattle.masks.specs.Both.{both}
+use Rattle.masks.proofs.Both.{both}
 use Rattle.masks.specs.declared.Mask.{Mask}
 use Rattle.masks.specs.Mask.{has}
 use Rattle.masks.specs.Names.{ENUM, STRUCT}
@@ -16,8 +16,8 @@ use Rattle.ops.specs.declared.Others.the-variants.{Unknowns, Words, Checked, Co
 use Rattle.ops.specs.declared.Rule.{Rule}
 use Rattle.ops.specs.Ops.{rules, noRule, ruleOf}
 use Rattle.definition.specs.Report.{saysFalse, isTest}
-use Rattle.laws.specs.Flows.{bool-sound}
-use Rattle.ruled.specs.Table.{every-rule}
+use Rattle.laws.proofs.Flows.{bool-sound}
+use Rattle.ruled.proofs.Table.{every-rule}
 
 abbrev inspects : Others → Bool
 inspects (Tested k) = true

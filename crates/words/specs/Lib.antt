@@ -1,4 +1,2 @@
 pub mod Layout
-pub mod Laws
 pub mod Rows
-pub mod RowLaws

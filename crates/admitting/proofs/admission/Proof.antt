@@ -1,5 +1,5 @@
 -- `admitting::admission` meets its contract.
-use Rattle.admitting.specs.Chunks.{at-small, admission-missing, admission-agrees, least-is}
+use Rattle.admitting.proofs.Chunks.{at-small, admission-missing, admission-agrees, least-is}
 use native.Mathlib.Omega.{arith}
 use borrow.Author.Needs.{needs}
 use Rattle.admitting.proofs.admission.Statement.{statement}

@@ -1,7 +1,7 @@
 -- `admitting::admitted` meets its contract.
 use denote.Ref.{now}
 use Rattle.layout.specs.Read.{chunks-are}
-use Rattle.admitting.specs.Chunks.{stands, turn-next, turn-stop, turn-end}
+use Rattle.admitting.proofs.Chunks.{stands, turn-next, turn-stop, turn-end}
 use Rattle.definition.specs.Start.{admitted}
 use Rattle.definition.specs.Module.{moduleOf}
 use lib.ListN.{drop}

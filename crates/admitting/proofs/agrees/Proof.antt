@@ -6,7 +6,7 @@ use lib.ListN.{getD}
 use denote.Ref.{now}
 use Rattle.description.specs.Fields.{tagsAt}
 use native.Mathlib.Omega.{arith}
-use Rattle.admitting.specs.Chunks.{at-small, tag-is}
+use Rattle.admitting.proofs.Chunks.{at-small, tag-is}
 use borrow.Author.Needs.{needs}
 use Rattle.admitting.proofs.agrees.Statement.{statement}
 use Rattle.admitting.proofs.agrees.Tie as tie

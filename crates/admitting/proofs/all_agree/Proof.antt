@@ -2,7 +2,7 @@
 use denote.Ref.{now}
 use mathlib.Core.Path.{sym, _∙_}
 use borrow.Author.Tests.{not-true, not-false}
-use Rattle.admitting.specs.Chunks.{agree-next, agree-stop, agree-end}
+use Rattle.admitting.proofs.Chunks.{agree-next, agree-stop, agree-end}
 use Rattle.goodform.specs.Good.{chunkNo}
 use Rattle.definition.specs.Start.{agree}
 use Rattle.definition.specs.Module.{moduleOf}

@@ -1,5 +1,5 @@
 -- `admitting::tag_mask` meets its contract.
-use Rattle.admitting.specs.Chunks.{tag-other}
+use Rattle.admitting.proofs.Chunks.{tag-other}
 use Rattle.definition.specs.Start.{tagMask}
 use Rattle.admitting.proofs.tag_mask.Statement.{statement}
 use Rattle.admitting.proofs.tag_mask.Tie as tie

@@ -2,7 +2,7 @@
 use native.Mathlib.Omega.{arith}
 use mathlib.Core.Path.{_∙_}
 use Rattle.definition.specs.Outputs.{noCell}
-use Rattle.outputs.specs.Parts.{local-small, local-room, local-there, local-none}
+use Rattle.outputs.proofs.Parts.{local-small, local-room, local-there, local-none}
 use borrow.Author.Needs.{needs}
 use Rattle.assigning.proofs.first_local.Statement.{statement}
 use Rattle.assigning.proofs.first_local.Tie as tie

@@ -1,6 +1,6 @@
 -- `assigning::set_by_yield` meets its contract.
 use mathlib.Core.Path.{refl}
-use Rattle.assigning.specs.Set.{set-first, set-none}
+use Rattle.assigning.proofs.Set.{set-first, set-none}
 use borrow.Author.Needs.{needs}
 use Rattle.assigning.proofs.set_by_yield.Statement.{statement}
 use Rattle.assigning.proofs.set_by_yield.Tie as tie

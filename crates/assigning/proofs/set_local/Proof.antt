@@ -1,9 +1,9 @@
 -- `assigning::set_local` meets its contract.
 use Rattle.definition.specs.Outputs.{setting}
-use Rattle.assigning.specs.Set.{set-none, set-told, set-value, set-yield}
+use Rattle.assigning.proofs.Set.{set-none, set-told, set-value, set-yield}
 use native.Mathlib.Omega.{arith}
-use Rattle.held.specs.Visits.{looking-standing}
-use Rattle.outputs.specs.Parts.{field-room, callee-in, callee-called}
+use Rattle.held.proofs.Visits.{looking-standing}
+use Rattle.outputs.proofs.Parts.{field-room, callee-in, callee-called}
 use borrow.Author.Needs.{needs}
 use Rattle.assigning.proofs.set_local.Statement.{statement}
 use Rattle.assigning.proofs.set_local.Tie as tie

@@ -3,7 +3,7 @@ use mathlib.Core.Path.{_≡_}
 use lib.ListN.{length}
 use Rattle.extents.specs.declared.BodyExtent.the-variants.{Absent}
 use Rattle.extents.specs.declared.Extent.{Extent}
-use Rattle.extents.specs.Four.{four}
+use Rattle.extents.proofs.Four.{four}
 use borrow.Author.Needs.{needs}
 use Rattle.bodies.proofs.join_bodies.Statement.{statement}
 use Rattle.bodies.proofs.join_bodies.Tie as tie

@@ -8,7 +8,7 @@ use mathlib.Core.Bool.{Bool, _||_}
 use Rattle.definition.specs.Module.{moduleOf}
 use Rattle.definition.specs.Data.{anyBody}
 use Rattle.held.specs.Slots.{listOf}
-use Rattle.slots.specs.Walk.{from, from-first, any-turn, any-end}
+use Rattle.slots.proofs.Walk.{from, from-first, any-turn, any-end}
 use Rattle.crossing.proofs.any_placed.Statement.{statement}
 use Rattle.crossing.proofs.any_placed.Tie as tie
 

@@ -6,7 +6,7 @@ use Rattle.ops.specs.declared.Data.the-variants.{OneSlot, ManySlots}
 use denote.Ref.{now}
 use native.Mathlib.Omega.{arith}
 use Rattle.definition.specs.Module.{moduleOf}
-use Rattle.slots.specs.Faults.{fault-one, fault-many}
+use Rattle.slots.proofs.Faults.{fault-one, fault-many}
 use borrow.Author.Needs.{needs}
 use Rattle.crossing.proofs.data_fault.Statement.{statement}
 use Rattle.crossing.proofs.data_fault.Tie as tie

@@ -5,7 +5,7 @@ use lib.ListN.{length}
 use Rattle.definition.specs.Module.{moduleOf}
 use borrow.Author.Needs.{needs}
 use Rattle.layout.specs.Read.{chunks-are}
-use Rattle.entering.specs.Rounds.{low-all, opens, opens-none}
+use Rattle.entering.proofs.Rounds.{low-all, opens, opens-none}
 use Rattle.entering.proofs.open_round.Statement.{statement}
 use Rattle.entering.proofs.open_round.Tie as tie
 

@@ -1,5 +1,5 @@
 -- `factlisting::list_facts` meets its contract.
-use Rattle.factlisting.specs.Listed.{listed-long, listed-call}
+use Rattle.factlisting.proofs.Listed.{listed-long, listed-call}
 use borrow.Author.Needs.{needs}
 use Rattle.factlisting.proofs.list_facts.Statement.{statement}
 use Rattle.factlisting.proofs.list_facts.Tie as tie

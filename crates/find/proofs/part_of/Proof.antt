@@ -5,7 +5,7 @@ use lib.ListN.{length}
 use native.Mathlib.Omega.{arith}
 use borrow.Author.Needs.{needs}
 use Rattle.find.specs.Find.{atEnd, whole, found}
-use Rattle.find.specs.Turns.{foundFrom, from-start, ends, overruns, finds, passes}
+use Rattle.find.proofs.Turns.{foundFrom, from-start, ends, overruns, finds, passes}
 use Rattle.find.proofs.part_of.Statement.{statement}
 use Rattle.find.proofs.part_of.Tie as tie
 

@@ -37,7 +37,7 @@ use denote.Triple.Walked.{says, Stays, stay-none-slice, walkOf, goes-none-slice,
 use denote.Exit.{yes}
 use denote.Triple.Clauses.{ensured, lasts}
 use Rattle.reader.specs.Reading.{left}
-use Rattle.reader.specs.Laws.{left-all}
+use Rattle.reader.proofs.Laws.{left-all}
 use Rattle.definition.specs.Form.{formOf}
 use Rattle.reader.specs.declared.Reader.{Reader}
 use Rattle.definition.specs.declared.Form.{Form}

@@ -4,7 +4,7 @@ use borrow.Author.Needs.{needs}
 use denote.Ref.{now}
 use Rattle.masks.specs.Mask.{union}
 use Rattle.masks.specs.declared.Mask.{Mask}
-use Rattle.gives.specs.Slots.{written-low}
+use Rattle.gives.proofs.Slots.{written-low}
 use Rattle.gives.proofs.add_write.Statement.{statement}
 use Rattle.gives.proofs.add_write.Tie as tie
 

@@ -8,15 +8,15 @@ use borrow.Author.Needs.{needs}
 use denote.Enum.Declared.{tagOf}
 use denote.Ref.{now}
 use types.Run.{OneOf}
-use Rattle.gives.specs.Gifts.{taken-there, value-there, slots-there, gives-arguments, gives-writes, gives-result, gives-none, gives-still, taken-in, nothing-taken}
+use Rattle.gives.proofs.Gifts.{taken-there, value-there, slots-there, gives-arguments, gives-writes, gives-result, gives-none, gives-still, taken-in, nothing-taken}
 use Rattle.held.specs.Held.{visitIn}
 use Rattle.definition.specs.Outputs.{Visit as DefinedVisit}
 use Rattle.definition.specs.State.{nothing}
 use Rattle.ops.specs.declared.Acts.the-variants.{Still, SetsLocal, Yields, Calls, Returns, Resets, Stores}
 use Rattle.ops.specs.declared.Acts.{Acts}
 use Rattle.ops.proofs.Acts.{the-type as actsType}
-use Rattle.gives.specs.Cells.{result-taken}
-use Rattle.held.specs.Visits.{looking-standing}
+use Rattle.gives.proofs.Cells.{result-taken}
+use Rattle.held.proofs.Visits.{looking-standing}
 use Rattle.layout.specs.Read.{result-is}
 use Rattle.layout.specs.Apart.{result-in}
 use Rattle.definition.specs.Leaves.{givesBy}

@@ -3,9 +3,9 @@ use mathlib.Core.Path.{_∙_}
 use native.Mathlib.Omega.{arith}
 use borrow.Author.Needs.{needs}
 use denote.Ref.{now}
-use Rattle.gives.specs.Gifts.{callee-there, callee-takes, inputs-places, args-taken}
-use Rattle.gives.specs.Cells.{signed, arguments-taken}
-use Rattle.held.specs.Visits.{looking-standing}
+use Rattle.gives.proofs.Gifts.{callee-there, callee-takes, inputs-places, args-taken}
+use Rattle.gives.proofs.Cells.{signed, arguments-taken}
+use Rattle.held.proofs.Visits.{looking-standing}
 use Rattle.layout.specs.Read.{input-is}
 use Rattle.gives.proofs.give_arguments.Statement.{statement}
 use Rattle.gives.proofs.give_arguments.Tie as tie

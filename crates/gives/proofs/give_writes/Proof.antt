@@ -6,13 +6,13 @@ use native.Mathlib.Omega.{arith}
 use lib.ListN.{length}
 use borrow.Author.Needs.{needs}
 use denote.Ref.{now}
-use Rattle.gives.specs.Gifts.{slot-there}
-use Rattle.gives.specs.Slots.{writes-turn, writes-end, slots-listed}
-use Rattle.gives.specs.Frames.{facts-refl, facts-trans}
+use Rattle.gives.proofs.Gifts.{slot-there}
+use Rattle.gives.proofs.Slots.{writes-turn, writes-end, slots-listed}
+use Rattle.gives.proofs.Frames.{facts-refl, facts-trans}
 use Rattle.course.specs.Course.{FactsOnly}
-use Rattle.held.specs.Visits.{looking-standing}
+use Rattle.held.proofs.Visits.{looking-standing}
 use Rattle.held.specs.Held.{liveIn}
-use Rattle.layout.specs.Kept.{indexed-steady}
+use Rattle.layout.proofs.Kept.{indexed-steady}
 use Rattle.layout.specs.Read.{slots-are}
 use Rattle.definition.specs.Leaves.{absorb, writeSlots}
 use Rattle.definition.specs.Module.{row, moduleOf}

@@ -7,7 +7,7 @@ use native.Mathlib.Omega.{arith}
 use lib.ListN.{length}
 use borrow.Author.Needs.{needs}
 use denote.Ref.{now}
-use Rattle.keep.specs.Laws.{arrived-none, kept-more}
+use Rattle.keep.proofs.Laws.{arrived-none, kept-more}
 use Rattle.keep.specs.Arrive.{Arrived}
 use Rattle.words.specs.Rows.{cellsAt}
 use Rattle.cells.specs.Cell.{bareCell}

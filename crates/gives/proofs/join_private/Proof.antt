@@ -5,7 +5,7 @@ use denote.Ref.{now}
 use Rattle.cells.specs.declared.Cell.{Cell}
 use Rattle.flows.specs.Flow.{joinedFlow}
 use Rattle.flows.specs.declared.Flow.{Flow}
-use Rattle.gives.specs.Slots.{flowed-put}
+use Rattle.gives.proofs.Slots.{flowed-put}
 use Rattle.gives.proofs.join_private.Statement.{statement}
 use Rattle.gives.proofs.join_private.Tie as tie
 

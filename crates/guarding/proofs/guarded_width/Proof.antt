@@ -1,7 +1,7 @@
 -- `guarding::guarded_width` meets its contract.
 use native.Mathlib.Omega.{arith}
 use lib.Count.{trailing-le}
-use Rattle.cells.specs.Single.{body-index}
+use Rattle.cells.proofs.Single.{body-index}
 use Rattle.cells.specs.Cell.{guardedWidth}
 use borrow.Author.Needs.{needs}
 use Rattle.guarding.proofs.guarded_width.Statement.{statement}

@@ -1,6 +1,6 @@
 use mathlib.Core.Path.{_∙_}
 use Rattle.definition.specs.Outputs.{noCell}
-use Rattle.held.specs.Args.{operand-there, operand-none}
+use Rattle.held.proofs.Args.{operand-there, operand-none}
 use borrow.Author.Needs.{needs}
 use Rattle.held.proofs.operand.Statement.{statement}
 use Rattle.held.proofs.operand.Tie as tie

@@ -1,6 +1,6 @@
 use mathlib.Core.Path.{ap, _∙_}
 use Rattle.cells.specs.declared.Cell.{Cell}
-use Rattle.held.specs.Args.{operand-there, operand-none, none-mask}
+use Rattle.held.proofs.Args.{operand-there, operand-none, none-mask}
 use borrow.Author.Needs.{needs}
 use Rattle.held.proofs.operand_mask.Statement.{statement}
 use Rattle.held.proofs.operand_mask.Tie as tie

@@ -5,7 +5,7 @@ use Rattle.definition.specs.Form.{instrFault}
 use borrow.Author.Tests.{ltb-false}
 use native.Mathlib.Omega.{arith}
 use borrow.Author.Needs.{needs}
-use Rattle.masks.specs.Both.{neither}
+use Rattle.masks.proofs.Both.{neither}
 use Rattle.instrrules.proofs.instr_fault.Statement.{statement}
 use Rattle.instrrules.proofs.instr_fault.Tie as tie
 

@@ -1,5 +1,5 @@
 -- `keep::join_one` meets its contract: what is stored is read back.
-use Rattle.keep.specs.Laws.{arrived-stored}
+use Rattle.keep.proofs.Laws.{arrived-stored}
 use denote.Ref.{now}
 use mathlib.Core.Path.{ap, _∙_}
 use Rattle.cells.specs.declared.Cell.{Cell}

@@ -1,6 +1,6 @@
 -- `keep::keep_all` meets its contract. The loop's invariant: the first p cells have arrived, and no word behind them has changed.
 use Rattle.keep.specs.Arrive.{Arrived, keptCell}
-use Rattle.keep.specs.Laws.{arrived-none, places-at, kept-more}
+use Rattle.keep.proofs.Laws.{arrived-none, places-at, kept-more}
 use Rattle.words.specs.Rows.{cellsAt}
 use mathlib.Core.List.{map}
 use denote.Ref.{now}

@@ -1,5 +1,5 @@
 -- `keep::keep_one` meets its contract: a cell that nothing touches is kept as it is.
-use Rattle.keep.specs.Laws.{untouched-kept}
+use Rattle.keep.proofs.Laws.{untouched-kept}
 use denote.Ref.{now}
 use mathlib.Core.Path.{sym, _∙_}
 use borrow.Author.Needs.{needs}

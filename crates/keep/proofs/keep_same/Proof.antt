@@ -1,5 +1,5 @@
 -- `keep::keep_same` meets its contract: the words are copied, are there already, or are joined.
-use Rattle.keep.specs.Laws.{arrived-copied, arrived-there}
+use Rattle.keep.proofs.Laws.{arrived-copied, arrived-there}
 use Rattle.keep.specs.Arrive.{keptCell}
 use denote.Ref.{now}
 use mathlib.Core.Path.{sym, _∙_}

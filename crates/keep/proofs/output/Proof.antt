@@ -1,5 +1,5 @@
 -- `keep::output` meets its contract, by the cases of the number.
-use Rattle.keep.specs.Laws.{output-first, output-second, output-rest}
+use Rattle.keep.proofs.Laws.{output-first, output-second, output-rest}
 use Rattle.keep.proofs.output.Statement.{statement}
 use Rattle.keep.proofs.output.Tie as tie
 

@@ -1,6 +1,6 @@
 -- `keep::put_outputs` meets its contract. The loop's invariant: the first k outputs have arrived.
 use Rattle.keep.specs.Arrive.{Arrived}
-use Rattle.keep.specs.Laws.{arrived-none, row-more}
+use Rattle.keep.proofs.Laws.{arrived-none, row-more}
 use Rattle.definition.specs.Module.{row}
 use Rattle.definition.specs.Outputs.{output}
 use Rattle.definition.specs.Ways.{outputList}

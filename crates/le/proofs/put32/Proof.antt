@@ -5,7 +5,7 @@ use Rattle.le.specs.Wrote.{put}
 use lib.ListN.{length-set}
 use native.Mathlib.Omega.{arith}
 use native.Mathlib.Numerals.{add-one}
-use Rattle.le.specs.Laws.{add-two, add-three}
+use Rattle.le.proofs.Laws.{add-two, add-three}
 use borrow.Author.Needs.{needs}
 use Rattle.le.proofs.put32.Statement.{statement}
 use Rattle.le.proofs.put32.Tie as tie

@@ -1,7 +1,7 @@
 -- `listing::masks_from` meets its contract.
 use Rattle.listing.specs.Laid.{Rest, rest-all, rest-on, rest-none}
 use Rattle.listing.specs.Listing.{masksFrom}
-use Rattle.listing.specs.Turns.{masks-turn, masks-end}
+use Rattle.listing.proofs.Turns.{masks-turn, masks-end}
 use Prim.Native.Nat.{_+_, _*_, _^_, _<_}
 use native.Mathlib.Omega.{arith}
 use borrow.Author.Needs.{needs}

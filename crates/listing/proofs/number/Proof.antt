@@ -1,7 +1,7 @@
 -- `listing::number` meets its contract.
 use Rattle.listing.specs.Laid.{Rest, rest-all, rest-on, rest-last}
 use Rattle.listing.specs.Decimal.{decimal, digitsFrom}
-use Rattle.listing.specs.Turns.{digits-turn, digits-end, tenth, ten-up}
+use Rattle.listing.proofs.Turns.{digits-turn, digits-end, tenth, ten-up}
 use Prim.Native.Nat.{ℕ, _/_, _^_}
 use mathlib.Core.Path.{_≡_, refl, ap, _∙_}
 use native.Mathlib.Omega.{arith}

@@ -6,7 +6,7 @@ use native.Mathlib.Omega.{arith}
 use Rattle.masks.specs.Mask.{of}
 use Rattle.definition.specs.Outputs.{commonKinds}
 use Rattle.held.specs.Held.{argsIn}
-use Rattle.looking.specs.Turns.{restIn, rest-all, common-turn, common-end}
+use Rattle.looking.proofs.Turns.{restIn, rest-all, common-turn, common-end}
 use Rattle.looking.proofs.common_kinds.Statement.{statement}
 use Rattle.looking.proofs.common_kinds.Tie as tie
 

@@ -4,8 +4,8 @@ use denote.Ref.{now}
 use mathlib.Core.Path.{ap, _∙_}
 use Rattle.packing.specs.declared.Packed.{Packed}
 use Rattle.packing.specs.Packing.{constructed}
-use Rattle.held.specs.Visits.{looking-standing}
-use Rattle.looking.specs.Parts.{constructed-is}
+use Rattle.held.proofs.Visits.{looking-standing}
+use Rattle.looking.proofs.Parts.{constructed-is}
 use borrow.Author.Needs.{needs}
 use Rattle.looking.proofs.constructed_at.Statement.{statement}
 use Rattle.looking.proofs.constructed_at.Tie as tie

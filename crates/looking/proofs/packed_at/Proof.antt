@@ -5,7 +5,7 @@ use borrow.Author.Needs.{needs}
 use native.Mathlib.Omega.{arith}
 use Rattle.packing.specs.Packing.{packedFrom, packedExtent}
 use Rattle.held.specs.Held.{argsIn}
-use Rattle.looking.specs.Turns.{restIn, packed-all, packed-turn, packed-end}
+use Rattle.looking.proofs.Turns.{restIn, packed-all, packed-turn, packed-end}
 use Rattle.looking.proofs.packed_at.Statement.{statement}
 use Rattle.looking.proofs.packed_at.Tie as tie
 

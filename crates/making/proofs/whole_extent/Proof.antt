@@ -2,7 +2,7 @@
 use mathlib.Core.Path.{_≡_}
 use lib.ListN.{length}
 use Rattle.flows.specs.Flow.{absent}
-use Rattle.extents.specs.Four.{four}
+use Rattle.extents.proofs.Four.{four}
 use Rattle.definition.specs.Data.{wholeExtent}
 use borrow.Author.Needs.{needs}
 use Rattle.making.proofs.whole_extent.Statement.{statement}

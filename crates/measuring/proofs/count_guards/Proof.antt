@@ -9,11 +9,11 @@ use lib.ListN.{length}
 use Rattle.definition.specs.Wants.{guardsIn}
 use Rattle.proving.specs.declared.Places.{Places}
 use Rattle.proving.specs.Proving.{placesBy, askedFrom, askedIn}
-use Rattle.proving.specs.Fine.{below-some}
-use Rattle.proving.specs.Checked.{guards-are}
-use Rattle.held.specs.Visits.{looking-standing}
+use Rattle.proving.proofs.Fine.{below-some}
+use Rattle.proving.proofs.Checked.{guards-are}
+use Rattle.held.proofs.Visits.{looking-standing}
 use Rattle.telling.specs.Guard.{isGuard}
-use Rattle.measuring.specs.Guards.{few-guards, guards-turn, guards-end}
+use Rattle.measuring.proofs.Guards.{few-guards, guards-turn, guards-end}
 use Rattle.measuring.proofs.count_guards.Statement.{statement}
 use Rattle.measuring.proofs.count_guards.Tie as tie
 

@@ -5,7 +5,7 @@ use borrow.Author.Needs.{needs}
 use denote.Ref.{now}
 use Rattle.masks.specs.Mask.{union, same}
 use Rattle.masks.specs.declared.Mask.{Mask}
-use Rattle.merging.specs.Merge.{merged-low}
+use Rattle.merging.proofs.Merge.{merged-low}
 use Rattle.merging.proofs.merge_slot.Statement.{statement}
 use Rattle.merging.proofs.merge_slot.Tie as tie
 

@@ -5,7 +5,7 @@ use native.Mathlib.Omega.{arith}
 use lib.ListN.{length}
 use denote.Ref.{now}
 use Rattle.definition.specs.Module.{moduleOf}
-use Rattle.merging.specs.Merge.{Merging, merging-none, merging-more, merging-answer, merging-facts}
+use Rattle.merging.proofs.Merge.{Merging, merging-none, merging-more, merging-answer, merging-facts}
 use Rattle.layout.specs.Read.{slots-are, slot-known}
 use Rattle.merging.proofs.merge_writes.Statement.{statement}
 use Rattle.merging.proofs.merge_writes.Tie as tie

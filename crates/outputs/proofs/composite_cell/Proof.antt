@@ -1,6 +1,6 @@
 -- `outputs::composite_cell` meets its contract.
 use mathlib.Core.Path.{_∙_}
-use Rattle.outputs.specs.First.{flat-is, boxed-is}
+use Rattle.outputs.proofs.First.{flat-is, boxed-is}
 use borrow.Author.Needs.{needs}
 use Rattle.outputs.proofs.composite_cell.Statement.{statement}
 use Rattle.outputs.proofs.composite_cell.Tie as tie

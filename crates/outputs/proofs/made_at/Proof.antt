@@ -1,5 +1,5 @@
 -- `outputs::made_at` meets its contract.
-use Rattle.outputs.specs.First.{made-is}
+use Rattle.outputs.proofs.First.{made-is}
 use borrow.Author.Needs.{needs}
 use Rattle.outputs.proofs.made_at.Statement.{statement}
 use Rattle.outputs.proofs.made_at.Tie as tie

@@ -1,6 +1,6 @@
 -- `outputs::native_at` meets its contract.
 use mathlib.Core.Path.{_∙_}
-use Rattle.outputs.specs.First.{native-is, native-none}
+use Rattle.outputs.proofs.First.{native-is, native-none}
 use borrow.Author.Needs.{needs}
 use Rattle.outputs.proofs.native_at.Statement.{statement}
 use Rattle.outputs.proofs.native_at.Tie as tie

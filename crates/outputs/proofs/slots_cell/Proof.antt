@@ -1,6 +1,6 @@
 -- `outputs::slots_cell` meets its contract.
 use native.Mathlib.Omega.{arith}
-use Rattle.slots.specs.Faults.{listed}
+use Rattle.slots.proofs.Faults.{listed}
 use borrow.Author.Needs.{needs}
 use Rattle.outputs.proofs.slots_cell.Statement.{statement}
 use Rattle.outputs.proofs.slots_cell.Tie as tie

@@ -1,7 +1,7 @@
 -- `packing::body_spans` meets its contract.
 use mathlib.Core.Path.{_≡_}
 use lib.ListN.{length}
-use Rattle.extents.specs.Four.{four}
+use Rattle.extents.proofs.Four.{four}
 use Rattle.flows.specs.Flow.{absent}
 use borrow.Author.Needs.{needs}
 use Rattle.packing.proofs.body_spans.Statement.{statement}

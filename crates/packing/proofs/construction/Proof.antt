@@ -1,7 +1,7 @@
 -- `packing::construction` meets its contract.
 use native.Mathlib.Omega.{arith}
 use lib.Count.{trailing-le}
-use Rattle.packing.specs.Index.{kind-index}
+use Rattle.packing.proofs.Index.{kind-index}
 use Rattle.packing.specs.Packing.{construction}
 use borrow.Author.Needs.{needs}
 use Rattle.packing.proofs.construction.Statement.{statement}

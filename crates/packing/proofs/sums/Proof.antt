@@ -1,7 +1,7 @@
 -- `packing::sums` meets its contract.
 use lib.Dec.{ltb}
 use native.Mathlib.Omega.{arith}
-use Rattle.masks.specs.Both.{both}
+use Rattle.masks.proofs.Both.{both}
 use borrow.Author.Tests.{ltb-true}
 use Rattle.packing.proofs.sums.Statement.{statement}
 use Rattle.packing.proofs.sums.Tie as tie

@@ -1,8 +1,8 @@
 -- `passing::go` meets its contract: a way that is cut or leads past the end passes nothing; any other is passed.
 use denote.Ref.{now}
 use native.Mathlib.Omega.{arith}
-use Rattle.held.specs.Visits.{looking-standing}
-use Rattle.passing.specs.Turns.{stands, row-fits, none-pass, open-on, one-pass}
+use Rattle.held.proofs.Visits.{looking-standing}
+use Rattle.passing.proofs.Turns.{stands, row-fits, none-pass, open-on, one-pass}
 use borrow.Author.Needs.{needs}
 use Rattle.passing.proofs.go.Statement.{statement}
 use Rattle.passing.proofs.go.Tie as tie

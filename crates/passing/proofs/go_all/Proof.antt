@@ -1,9 +1,9 @@
 -- `passing::go_all` meets its contract: no way, one, or two, of which the first leaves the row of the visit as it was.
 use denote.Ref.{now}
 use native.Mathlib.Omega.{arith}
-use Rattle.held.specs.Visits.{looking-standing}
-use Rattle.passing.specs.Turns.{stands, given}
-use Rattle.passing.specs.Twice.{no-ways, one-way, two-stop, stands-after, two-ways}
+use Rattle.held.proofs.Visits.{looking-standing}
+use Rattle.passing.proofs.Turns.{stands, given}
+use Rattle.passing.proofs.Twice.{no-ways, one-way, two-stop, stands-after, two-ways}
 use borrow.Author.Needs.{needs}
 use Rattle.passing.proofs.go_all.Statement.{statement}
 use Rattle.passing.proofs.go_all.Tie as tie

@@ -1,6 +1,6 @@
 -- `passing::maybe_enum` meets its contract: a local is read in the row; past the locals there is none.
 use mathlib.Core.Path.{_∙_}
-use Rattle.passing.specs.Cuts.{may-there, may-none}
+use Rattle.passing.proofs.Cuts.{may-there, may-none}
 use denote.Ref.{now}
 use borrow.Author.Needs.{needs}
 use Rattle.passing.proofs.maybe_enum.Statement.{statement}

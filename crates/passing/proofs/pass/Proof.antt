@@ -1,6 +1,6 @@
 -- `passing::pass` meets its contract: how the target was met says which of the three the definition puts.
 use denote.Ref.{now}
-use Rattle.passing.specs.Meets.{open-leave, same-put, unequal-put, entry-put}
+use Rattle.passing.proofs.Meets.{open-leave, same-put, unequal-put, entry-put}
 use borrow.Author.Needs.{needs}
 use Rattle.passing.proofs.pass.Statement.{statement}
 use Rattle.passing.proofs.pass.Tie as tie

@@ -5,9 +5,9 @@ use mathlib.Core.Path.{refl, ap, _∙_}
 use Prim.Native.Nat.{ℕ}
 use Rattle.words.specs.Layout.{cellAt}
 use Rattle.layout.specs.Read.{slots-are}
-use Rattle.held.specs.Visits.{looking-standing}
-use Rattle.proving.specs.Fine.{writes-one, writes-many}
-use Rattle.proving.specs.Found.{place-fits, found-nothing, found-first, found-both, found-every, found-below, found-writes, found-indexed, found-never}
+use Rattle.held.proofs.Visits.{looking-standing}
+use Rattle.proving.proofs.Fine.{writes-one, writes-many}
+use Rattle.proving.proofs.Found.{place-fits, found-nothing, found-first, found-both, found-every, found-below, found-writes, found-indexed, found-never}
 use borrow.Author.Needs.{needs}
 use Rattle.proving.proofs.check_place.Statement.{statement}
 use Rattle.proving.proofs.check_place.Tie as tie

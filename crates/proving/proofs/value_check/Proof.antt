@@ -7,7 +7,7 @@ use Rattle.definition.specs.declared.Check.the-variants.{Fine}
 use Rattle.definition.specs.Module.{moduleOf}
 use Rattle.definition.specs.Wants.{atIndex, writeCheck}
 use Rattle.held.specs.Held.{factsIn}
-use Rattle.slots.specs.Faults.{listed}
+use Rattle.slots.proofs.Faults.{listed}
 use borrow.Author.Needs.{needs}
 use Rattle.proving.proofs.value_check.Statement.{statement}
 use Rattle.proving.proofs.value_check.Tie as tie

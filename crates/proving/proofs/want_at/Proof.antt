@@ -2,8 +2,8 @@
 use denote.Ref.{now}
 use native.Mathlib.Omega.{arith}
 use mathlib.Core.Path.{_∙_}
-use Rattle.held.specs.Visits.{looking-standing}
-use Rattle.proving.specs.Wanted.{field-room, place-room, want-is}
+use Rattle.held.proofs.Visits.{looking-standing}
+use Rattle.proving.proofs.Wanted.{field-room, place-room, want-is}
 use borrow.Author.Needs.{needs}
 use Rattle.proving.proofs.want_at.Statement.{statement}
 use Rattle.proving.proofs.want_at.Tie as tie

@@ -1,6 +1,6 @@
 -- `putting::put_bodies` meets its contract.
-use Rattle.le.specs.Laws.{and-then}
-use Rattle.putting.specs.Laws.{said, four}
+use Rattle.le.proofs.Laws.{and-then}
+use Rattle.putting.proofs.Laws.{said, four}
 use borrow.Author.Needs.{needs}
 use Rattle.putting.proofs.put_bodies.Statement.{statement}
 use Rattle.putting.proofs.put_bodies.Tie as tie

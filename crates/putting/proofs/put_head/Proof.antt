@@ -1,5 +1,5 @@
 -- `putting::put_head` meets its contract.
-use Rattle.le.specs.Laws.{and-then}
+use Rattle.le.proofs.Laws.{and-then}
 use borrow.Author.Needs.{needs}
 use Rattle.putting.proofs.put_head.Statement.{statement}
 use Rattle.putting.proofs.put_head.Tie as tie

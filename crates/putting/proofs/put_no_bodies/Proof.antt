@@ -1,8 +1,8 @@
 -- `putting::put_no_bodies` meets its contract.
-use Rattle.le.specs.Laws.{and-then}
+use Rattle.le.proofs.Laws.{and-then}
 use Rattle.flows.specs.Flow.{absent, noFlow}
 use Rattle.definition.specs.Report.{bodyBytes}
-use Rattle.putting.specs.Laws.{said, four}
+use Rattle.putting.proofs.Laws.{said, four}
 use mathlib.Core.Path.{refl}
 use borrow.Author.Needs.{needs}
 use Rattle.putting.proofs.put_no_bodies.Statement.{statement}

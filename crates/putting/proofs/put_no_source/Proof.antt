@@ -1,5 +1,5 @@
 -- `putting::put_no_source` meets its contract.
-use Rattle.le.specs.Laws.{and-then}
+use Rattle.le.proofs.Laws.{and-then}
 use Rattle.flows.specs.Flow.{noFlow}
 use Rattle.definition.specs.Report.{ownedByte, originNumber, receiverNumber, whenByte, sourceBytes}
 use borrow.Author.Needs.{needs}

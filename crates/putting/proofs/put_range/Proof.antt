@@ -1,6 +1,6 @@
 -- `putting::put_range` meets its contract.
 use Rattle.definition.specs.Report.{rangeBytes}
-use Rattle.le.specs.Laws.{and-then}
+use Rattle.le.proofs.Laws.{and-then}
 use borrow.Author.Needs.{needs}
 use Rattle.putting.proofs.put_range.Statement.{statement}
 use Rattle.putting.proofs.put_range.Tie as tie

@@ -1,6 +1,6 @@
 -- `putting::put_sized` meets its contract.
 use Rattle.definition.specs.Report.{sizedBytes}
-use Rattle.le.specs.Laws.{and-then}
+use Rattle.le.proofs.Laws.{and-then}
 use borrow.Author.Needs.{needs}
 use Rattle.putting.proofs.put_sized.Statement.{statement}
 use Rattle.putting.proofs.put_sized.Tie as tie

@@ -1,5 +1,5 @@
 -- `putting::put_source` meets its contract.
-use Rattle.le.specs.Laws.{and-then}
+use Rattle.le.proofs.Laws.{and-then}
 use Rattle.definition.specs.Report.{sourceBytes}
 use borrow.Author.Needs.{needs}
 use Rattle.putting.proofs.put_source.Statement.{statement}

@@ -2,7 +2,7 @@
 use mathlib.Core.Path.{sym, ap, _∙_}
 use denote.Ref.{now}
 use Rattle.cells.specs.declared.Cell.{Cell}
-use Rattle.words.specs.Laws.{flow-none}
+use Rattle.words.proofs.Laws.{flow-none}
 use borrow.Author.Needs.{needs}
 use Rattle.putting.proofs.put_stored.Statement.{statement}
 use Rattle.putting.proofs.put_stored.Tie as tie

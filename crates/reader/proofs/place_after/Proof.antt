@@ -1,7 +1,7 @@
 -- `reader::place_after` meets its contract.
 use borrow.Author.Needs.{needs}
 use Rattle.description.specs.Fields.{lenAt}
-use Rattle.reader.specs.Laws.{next-read, over-read, after-none}
+use Rattle.reader.proofs.Laws.{next-read, over-read, after-none}
 use Rattle.reader.proofs.place_after.Statement.{statement}
 use Rattle.reader.proofs.place_after.Tie as tie
 

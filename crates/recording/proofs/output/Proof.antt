@@ -1,7 +1,7 @@
 -- `recording::output` meets its contract: a case for each output.
 use mathlib.Core.Path.{ap, sym}
 use Rattle.definition.specs.Outputs.{output}
-use Rattle.keep.specs.Laws.{output-rest}
+use Rattle.keep.proofs.Laws.{output-rest}
 use Rattle.recording.proofs.output.Statement.{statement}
 use Rattle.recording.proofs.output.Tie as tie
 

@@ -4,8 +4,8 @@ use denote.Ref.{now}
 use native.Mathlib.Omega.{arith}
 use mathlib.Core.Path.{_≡_}
 use Rattle.le.specs.Wrote.{Wrote}
-use Rattle.le.specs.Laws.{and-then, resize, same-length as same-long}
-use Rattle.putting.specs.Laws.{said}
+use Rattle.le.proofs.Laws.{and-then, resize, same-length as same-long}
+use Rattle.putting.proofs.Laws.{said}
 use Rattle.words.specs.Rows.{cellsAt}
 use Rattle.definition.specs.Report.{cellsBytes}
 use Rattle.recording.specs.Writes.{wrote-none, cells-none, cells-more}

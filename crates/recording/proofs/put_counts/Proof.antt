@@ -1,6 +1,6 @@
 -- `recording::put_counts` meets its contract.
-use Rattle.le.specs.Laws.{and-then}
-use Rattle.putting.specs.Laws.{said}
+use Rattle.le.proofs.Laws.{and-then}
+use Rattle.putting.proofs.Laws.{said}
 use Rattle.recording.specs.Writes.{low16}
 use borrow.Author.Needs.{needs}
 use Rattle.recording.proofs.put_counts.Statement.{statement}

@@ -3,13 +3,13 @@ use native.Mathlib.Omega.{arith}
 use mathlib.Core.Path.{_∙_, ap, sym}
 use mathlib.Core.List.{[]}
 use lib.ListN.{length}
-use Rattle.le.specs.Laws.{and-then, same-length as same-long}
-use Rattle.putting.specs.Laws.{said}
+use Rattle.le.proofs.Laws.{and-then, same-length as same-long}
+use Rattle.putting.proofs.Laws.{said}
 use Rattle.definition.specs.declared.Check.{Check}
 use Rattle.definition.specs.Wants.{guardOf}
 use Rattle.definition.specs.Report.{guardsBytes}
 use Rattle.recording.specs.Writes.{low16, exact, wrote-none}
-use Rattle.recording.specs.Guards.{guard-bytes, guard-long, fine-bytes, unproven-bytes}
+use Rattle.recording.proofs.Guards.{guard-bytes, guard-long, fine-bytes, unproven-bytes}
 use borrow.Author.Needs.{needs}
 use Rattle.recording.proofs.put_guard.Statement.{statement}
 use Rattle.recording.proofs.put_guard.Tie as tie

@@ -6,17 +6,17 @@ use mathlib.Core.Path.{_≡_, sym, ap, _∙_}
 use mathlib.Core.List.{[]}
 use lib.ListN.{length}
 use Rattle.le.specs.Wrote.{Wrote}
-use Rattle.le.specs.Laws.{same-length as same-long}
+use Rattle.le.proofs.Laws.{same-length as same-long}
 use Rattle.definition.specs.declared.Check.{Check}
 use Rattle.definition.specs.Wants.{guardOf}
 use Rattle.definition.specs.Report.{guardsBytes}
-use Rattle.held.specs.Visits.{looking-standing}
+use Rattle.held.proofs.Visits.{looking-standing}
 use Rattle.proving.specs.declared.Places.{Places}
 use Rattle.proving.specs.Proving.{placesBy}
-use Rattle.proving.specs.Fine.{below-some}
+use Rattle.proving.proofs.Fine.{below-some}
 use Rattle.measuring.specs.Span.{span}
 use Rattle.recording.specs.Writes.{said-exact, span-start, span-fits, span-turn}
-use Rattle.recording.specs.Guards.{guardAt, guards-span, places-low, span-stop}
+use Rattle.recording.proofs.Guards.{guardAt, guards-span, places-low, span-stop}
 use Rattle.recording.proofs.put_guards.Statement.{statement}
 use Rattle.recording.proofs.put_guards.Tie as tie
 

@@ -4,8 +4,8 @@ use Prim.Native.Nat.{_*_, _-_, _≤_, _+_}
 use native.Mathlib.Omega.{arith}
 use mathlib.Core.Path.{_≡_, ap, refl}
 use Rattle.le.specs.Wrote.{Wrote}
-use Rattle.le.specs.Laws.{and-then, resize, same-length as same-long}
-use Rattle.putting.specs.Laws.{said}
+use Rattle.le.proofs.Laws.{and-then, resize, same-length as same-long}
+use Rattle.putting.proofs.Laws.{said}
 use Rattle.definition.specs.Module.{row}
 use Rattle.definition.specs.Outputs.{output}
 use Rattle.definition.specs.Report.{placed, cellBytes, outputsBytes}

@@ -1,8 +1,8 @@
 -- `recording::put_record` meets its contract.
 use denote.Ref.{now}
 use native.Mathlib.Omega.{arith}
-use Rattle.le.specs.Laws.{and-then, same-length as same-long}
-use Rattle.putting.specs.Laws.{said}
+use Rattle.le.proofs.Laws.{and-then, same-length as same-long}
+use Rattle.putting.proofs.Laws.{said}
 use Rattle.measuring.specs.Here.{low-here, numbers-here, entry-here, asking-here, few-here}
 use Rattle.recording.specs.Writes.{exact}
 use Rattle.recording.specs.Values.{here-as, small-here, record-made, record-room}

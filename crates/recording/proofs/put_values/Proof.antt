@@ -2,8 +2,8 @@
 use denote.Ref.{now}
 use native.Mathlib.Omega.{arith}
 use mathlib.Core.Path.{ap}
-use Rattle.le.specs.Laws.{and-then, same-length as same-long}
-use Rattle.putting.specs.Laws.{said}
+use Rattle.le.proofs.Laws.{and-then, same-length as same-long}
+use Rattle.putting.proofs.Laws.{said}
 use Rattle.definition.specs.declared.Made.{Made}
 use Rattle.definition.specs.Module.{row}
 use Rattle.definition.specs.Outputs.{output}

@@ -1,6 +1,6 @@
 -- `resetting::reset_locals` meets its contract. The loop's invariant: the first k locals have arrived.
 use Rattle.keep.specs.Arrive.{Arrived}
-use Rattle.keep.specs.Laws.{arrived-none, row-more}
+use Rattle.keep.proofs.Laws.{arrived-none, row-more}
 use Rattle.rows.specs.Left.{resetAt}
 use Rattle.definition.specs.Module.{row}
 use denote.Ref.{now}

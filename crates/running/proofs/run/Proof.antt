@@ -1,4 +1,4 @@
-use Rattle.running.specs.Ways.{run-stop, run-done, run-due, due-ready}
+use Rattle.running.proofs.Ways.{run-stop, run-done, run-due, due-ready}
 use borrow.Author.Needs.{needs}
 use Rattle.running.proofs.run.Statement.{statement}
 use Rattle.running.proofs.run.Tie as tie

@@ -1,4 +1,4 @@
-use Rattle.running.specs.Ways.{OnRun, on-first, ran-stop, ran-done, ran-due, ran-less, spent-ready, ran-spent}
+use Rattle.running.proofs.Ways.{OnRun, on-first, ran-stop, ran-done, ran-due, ran-less, spent-ready, ran-spent}
 use mathlib.Core.Path.{refl}
 use Prim.Native.Nat.{_-_}
 use native.Mathlib.Omega.{arith}

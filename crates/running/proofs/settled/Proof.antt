@@ -1,4 +1,4 @@
-use Rattle.running.specs.Ways.{settled-here, settled-on}
+use Rattle.running.proofs.Ways.{settled-here, settled-on}
 use native.Mathlib.Omega.{arith}
 use borrow.Author.Needs.{needs}
 use Rattle.running.proofs.settled.Statement.{statement}

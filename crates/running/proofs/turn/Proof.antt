@@ -1,4 +1,4 @@
-use Rattle.running.specs.Ways.{turned-stop, turned-on, took-between}
+use Rattle.running.proofs.Ways.{turned-stop, turned-on, took-between}
 use native.Mathlib.Omega.{arith}
 use borrow.Author.Needs.{needs}
 use Rattle.running.proofs.turn.Statement.{statement}

@@ -1,5 +1,5 @@
 -- `end_round` meets its contract.
-use Rattle.course.specs.Stays.{facts-prepared}
+use Rattle.course.proofs.Stays.{facts-prepared}
 use Rattle.settling.specs.Ends.{ends-done, ends-opened}
 use borrow.Author.Needs.{needs}
 use Rattle.settling.proofs.end_round.Statement.{statement}

@@ -13,7 +13,7 @@ use Rattle.definition.specs.Data.{flowIn}
 use Rattle.layout.specs.Read.{slot-known}
 use Rattle.held.specs.Held.{factsIn}
 use Rattle.held.specs.Slots.{listOf}
-use Rattle.slots.specs.Walk.{from, from-first, flow-turn, flow-end, flow-here}
+use Rattle.slots.proofs.Walk.{from, from-first, flow-turn, flow-end, flow-here}
 use Rattle.slots.proofs.flow_in.Statement.{statement}
 use Rattle.slots.proofs.flow_in.Tie as tie
 

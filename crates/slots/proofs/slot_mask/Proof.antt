@@ -6,7 +6,7 @@ use Prim.Native.Nat.{ℕ}
 use Rattle.definition.specs.Data.{sharedMask}
 use Rattle.words.specs.Layout.{cellAt}
 use Rattle.layout.specs.Read.{slots-are, shared-are, slot-known}
-use Rattle.slots.specs.Walk.{slot-shared, slot-private, slot-past}
+use Rattle.slots.proofs.Walk.{slot-shared, slot-private, slot-past}
 use borrow.Author.Needs.{needs}
 use Rattle.slots.proofs.slot_mask.Statement.{statement}
 use Rattle.slots.proofs.slot_mask.Tie as tie

@@ -1,7 +1,7 @@
 -- `starting::declare` meets its contract.
 use Rattle.starting.specs.Inputs.{DeclaredIn, declared-none, declared-more}
-use Rattle.starting.specs.Replies.{owns-is}
-use Rattle.layout.specs.Kept.{indexed-steady}
+use Rattle.starting.proofs.Replies.{owns-is}
+use Rattle.layout.proofs.Kept.{indexed-steady}
 use Rattle.definition.specs.Module.{moduleOf}
 use mathlib.Core.Path.{_≡_}
 use Prim.Native.Nat.{_≤_, _-_}

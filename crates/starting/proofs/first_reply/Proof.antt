@@ -1,5 +1,5 @@
 -- `starting::first_reply` meets its contract.
-use Rattle.starting.specs.Replies.{entry-there, reply-param, reply-unit}
+use Rattle.starting.proofs.Replies.{entry-there, reply-param, reply-unit}
 use Rattle.layout.specs.Read.{place-is, params-is}
 use mathlib.Core.Path.{_∙_}
 use native.Mathlib.Omega.{arith}

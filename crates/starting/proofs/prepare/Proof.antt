@@ -1,6 +1,6 @@
 -- `starting::prepare` meets its contract.
 use Rattle.starting.specs.Settled.{reply-room, put-indexed, few-slots, all-settled}
-use Rattle.layout.specs.Kept.{indexed-steady}
+use Rattle.layout.proofs.Kept.{indexed-steady}
 use borrow.Author.Needs.{needs}
 use Rattle.starting.proofs.prepare.Statement.{statement}
 use Rattle.starting.proofs.prepare.Tie as tie

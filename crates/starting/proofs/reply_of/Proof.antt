@@ -1,5 +1,5 @@
 -- `starting::reply_of` meets its contract.
-use Rattle.starting.specs.Replies.{owns-is, replies-next, replies-end}
+use Rattle.starting.proofs.Replies.{owns-is, replies-next, replies-end}
 use Rattle.layout.specs.Read.{chunks-are}
 use Rattle.definition.specs.Start.{replies}
 use Rattle.definition.specs.Module.{moduleOf}

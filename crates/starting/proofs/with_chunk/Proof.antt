@@ -1,5 +1,5 @@
 -- `starting::with_chunk` meets its contract.
-use Rattle.starting.specs.Replies.{field-fits, sites-next, sites-end}
+use Rattle.starting.proofs.Replies.{field-fits, sites-next, sites-end}
 use Rattle.goodform.specs.Good.{chunkNo}
 use Rattle.definition.specs.Start.{replyIn}
 use Rattle.definition.specs.Module.{moduleOf}

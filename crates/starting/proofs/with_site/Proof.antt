@@ -1,5 +1,5 @@
 -- `starting::with_site` meets its contract.
-use Rattle.starting.specs.Replies.{site-reply, site-none}
+use Rattle.starting.proofs.Replies.{site-reply, site-none}
 use mathlib.Core.Path.{_∙_}
 use borrow.Author.Needs.{needs}
 use Rattle.starting.proofs.with_site.Statement.{statement}

@@ -1,5 +1,5 @@
 -- `suspending::calls` meets its contract.
-use Rattle.suspending.specs.Looks.{suspends-is}
+use Rattle.suspending.proofs.Looks.{suspends-is}
 use borrow.Author.Tests.{eq-eqb, ne-eqb}
 use borrow.Author.Needs.{needs}
 use Rattle.suspending.proofs.calls.Statement.{statement}

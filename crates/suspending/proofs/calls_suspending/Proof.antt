@@ -1,5 +1,5 @@
 -- `suspending::calls_suspending` meets its contract.
-use Rattle.suspending.specs.Looks.{callee-there, calls-next, calls-stop, calls-end}
+use Rattle.suspending.proofs.Looks.{callee-there, calls-next, calls-stop, calls-end}
 use Rattle.suspending.specs.Suspending.{suspendsIn}
 use Rattle.goodform.specs.Good.{chunkNo}
 use Rattle.definition.specs.Start.{callsOne}

@@ -1,5 +1,5 @@
 -- `suspending::suspend_all` meets its contract.
-use Rattle.suspending.specs.Looks.{Left, left-first, left-less, left-none, left-last, marked-indexed}
+use Rattle.suspending.proofs.Looks.{Left, left-first, left-less, left-none, left-last, marked-indexed}
 use Rattle.layout.specs.Read.{chunks-are}
 use native.Mathlib.Omega.{arith}
 use Rattle.suspending.proofs.suspend_all.Statement.{statement}

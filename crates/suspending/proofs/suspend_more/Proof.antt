@@ -1,5 +1,5 @@
 -- `suspending::suspend_more` meets its contract.
-use Rattle.suspending.specs.Looks.{Looking, looking-first, looking-next, looking-last, marked-indexed}
+use Rattle.suspending.proofs.Looks.{Looking, looking-first, looking-next, looking-last, marked-indexed}
 use Rattle.layout.specs.Read.{chunks-are}
 use Prim.Native.Nat.{_-_}
 use native.Mathlib.Omega.{arith}

@@ -1,5 +1,5 @@
 -- `suspending::suspend_one` meets its contract.
-use Rattle.suspending.specs.Looks.{look-known, look-found, look-none}
+use Rattle.suspending.proofs.Looks.{look-known, look-found, look-none}
 use Rattle.layout.specs.Read.{numbers-room}
 use native.Mathlib.Omega.{arith}
 use borrow.Author.Needs.{needs}

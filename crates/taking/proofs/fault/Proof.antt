@@ -1,4 +1,4 @@
-use Rattle.taking.specs.Faults.{start-small, fault-always, fault-unfit, fault-high, fault-none}
+use Rattle.taking.proofs.Faults.{start-small, fault-always, fault-unfit, fault-high, fault-none}
 use mathlib.Core.Path.{sym, _∙_}
 use borrow.Author.Needs.{needs}
 use Rattle.taking.proofs.fault.Statement.{statement}

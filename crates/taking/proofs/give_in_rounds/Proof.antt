@@ -2,8 +2,8 @@ use denote.Ref.{now}
 use Rattle.definition.specs.Leaves.{gives}
 use Rattle.held.specs.Held.{liveIn, visitIn}
 use Rattle.course.specs.Course.{roomIn}
-use Rattle.taking.specs.Steps.{adds-none, adds-here, nothing-written}
-use Rattle.taking.specs.Faults.{entry-is}
+use Rattle.taking.proofs.Steps.{adds-none, adds-here, nothing-written}
+use Rattle.taking.proofs.Faults.{entry-is}
 use mathlib.Core.Path.{_∙_}
 use borrow.Author.Needs.{needs}
 use Rattle.taking.proofs.give_in_rounds.Statement.{statement}

@@ -1,5 +1,5 @@
-use Rattle.taking.specs.Frames.{alike-of}
-use Rattle.taking.specs.Faults.{start-small}
+use Rattle.taking.proofs.Frames.{alike-of}
+use Rattle.taking.proofs.Faults.{start-small}
 use borrow.Author.Needs.{needs}
 use Rattle.taking.proofs.leaving.Statement.{statement}
 use Rattle.taking.proofs.leaving.Tie as tie

@@ -1,4 +1,4 @@
-use Rattle.taking.specs.Steps.{took-at, took-dropped, ready-at, due-is, popped-is, popped-queued, due-row, visit-ready}
+use Rattle.taking.proofs.Steps.{took-at, took-dropped, ready-at, due-is, popped-is, popped-queued, due-row, visit-ready}
 use Rattle.layout.specs.Indexed.{chunkAt}
 use native.Mathlib.Omega.{arith}
 use mathlib.Core.Path.{sym, ap, _∙_}

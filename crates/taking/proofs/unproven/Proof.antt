@@ -1,4 +1,4 @@
-use Rattle.taking.specs.Faults.{entry-is}
+use Rattle.taking.proofs.Faults.{entry-is}
 use Rattle.held.specs.Held.{visitIn}
 use Rattle.definition.specs.Wants.{unfit}
 use denote.Ref.{now}

@@ -1,5 +1,5 @@
-use Rattle.taking.specs.Steps.{signed, took-faulty, ready-to-go, took-stopped, took-on}
-use Rattle.taking.specs.Faults.{place-small, faultless}
+use Rattle.taking.proofs.Steps.{signed, took-faulty, ready-to-go, took-stopped, took-on}
+use Rattle.taking.proofs.Faults.{place-small, faultless}
 use mathlib.Core.Path.{sym, _∙_}
 use native.Mathlib.Omega.{arith}
 use borrow.Author.Needs.{needs}

@@ -6,7 +6,7 @@ use mathlib.Core.Path.{_∙_, ap}
 use denote.Ref.{now}
 use Rattle.cells.specs.declared.Cell.{Cell}
 use Rattle.definition.specs.Start.{last}
-use Rattle.held.specs.Args.{none-mask}
+use Rattle.held.proofs.Args.{none-mask}
 use Rattle.telling.specs.Told.{top-is, top-none}
 use borrow.Author.Needs.{needs}
 use Rattle.telling.proofs.top_mask.Statement.{statement}

@@ -9,8 +9,8 @@ use mathlib.Core.Bool.{Bool, _&&_}
 use Rattle.definition.specs.Wants.{isProven, allProven}
 use Rattle.proving.specs.declared.Places.{Places}
 use Rattle.proving.specs.Proving.{placesBy, askedFrom, askedIn}
-use Rattle.proving.specs.Fine.{below-some}
-use Rattle.proving.specs.Checked.{proven-turn, proven-end}
+use Rattle.proving.proofs.Fine.{below-some}
+use Rattle.proving.proofs.Checked.{proven-turn, proven-end}
 use Rattle.validating.proofs.places_proven.Statement.{statement}
 use Rattle.validating.proofs.places_proven.Tie as tie
 

@@ -4,7 +4,7 @@ use mathlib.Core.Path.{sym, _∙_}
 use mathlib.Core.Bool.{true, false}
 use borrow.Author.Tests.{not-true, not-false}
 use Rattle.proving.specs.Proving.{Asking}
-use Rattle.proving.specs.Checked.{unfit-never, unfit-unproven, unfit-packed}
+use Rattle.proving.proofs.Checked.{unfit-never, unfit-unproven, unfit-packed}
 use borrow.Author.Needs.{needs}
 use Rattle.validating.proofs.proven.Statement.{statement}
 use Rattle.validating.proofs.proven.Tie as tie

@@ -1,5 +1,5 @@
 -- `validating::unpacked` meets its contract.
-use Rattle.proving.specs.Checked.{unpacked-flat, unpacked-boxed}
+use Rattle.proving.proofs.Checked.{unpacked-flat, unpacked-boxed}
 use denote.Ref.{now}
 use mathlib.Core.Path.{_≡_, refl, sym, ap, _∙_}
 use mathlib.Core.Bool.{false}
@@ -14,7 +14,7 @@ use Rattle.extents.specs.declared.Extent.{Extent}
 use Rattle.definition.specs.Outputs.{Visit}
 use Rattle.definition.specs.Wants.{isUnknown, unpacked}
 use Rattle.held.specs.Held.{visitIn}
-use Rattle.looking.specs.Parts.{ins-is}
+use Rattle.looking.proofs.Parts.{ins-is}
 use borrow.Author.Needs.{needs}
 use Rattle.validating.proofs.unpacked.Statement.{statement}
 use Rattle.validating.proofs.unpacked.Tie as tie

@@ -3,8 +3,8 @@ use mathlib.Core.Path.{ap}
 use Prim.Native.Nat.{ℕ}
 use mathlib.Core.List.{[], _∷_}
 use Rattle.le.specs.Le.{le16}
-use Rattle.le.specs.Laws.{and-then}
-use Rattle.putting.specs.Laws.{said}
+use Rattle.le.proofs.Laws.{and-then}
+use Rattle.putting.proofs.Laws.{said}
 use Rattle.definition.specs.Report.{field, branchBytes}
 use borrow.Author.Needs.{needs}
 use Rattle.writing.proofs.put_branch.Statement.{statement}

@@ -6,7 +6,7 @@ use borrow.Author.Needs.{needs}
 use mathlib.Core.Path.{_≡_, ap}
 use lib.ListN.{length}
 use Rattle.le.specs.Wrote.{Wrote}
-use Rattle.le.specs.Laws.{same-length as same-long}
+use Rattle.le.proofs.Laws.{same-length as same-long}
 use Rattle.measuring.specs.Span.{span}
 use Rattle.measuring.specs.Adds.{addedFor, recordable, chunkFor}
 use Rattle.measuring.specs.Here.{count-recordable, counted-here}

@@ -5,7 +5,7 @@ use native.Mathlib.Omega.{arith}
 use mathlib.Core.Path.{_≡_, ap}
 use lib.ListN.{length}
 use Rattle.le.specs.Wrote.{Wrote}
-use Rattle.le.specs.Laws.{same-length as same-long}
+use Rattle.le.proofs.Laws.{same-length as same-long}
 use Rattle.definition.specs.Module.{moduleOf}
 use Rattle.layout.specs.Read.{chunks-are}
 use Rattle.measuring.specs.Span.{span}

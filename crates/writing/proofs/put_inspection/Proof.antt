@@ -1,6 +1,6 @@
 -- `writing::put_inspection` meets its contract.
 use Rattle.le.specs.Le.{le16}
-use Rattle.le.specs.Laws.{and-then}
+use Rattle.le.proofs.Laws.{and-then}
 use Rattle.definition.specs.Report.{field, inspectionBytes}
 use borrow.Author.Needs.{needs}
 use Rattle.writing.proofs.put_inspection.Statement.{statement}

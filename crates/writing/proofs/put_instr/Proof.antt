@@ -1,8 +1,8 @@
 -- `writing::put_instr` meets its contract: a record, an inspection, a branch, or nothing.
 use lib.ListN.{length}
-use Rattle.masks.specs.Both.{both}
+use Rattle.masks.proofs.Both.{both}
 use Rattle.le.specs.Le.{le16}
-use Rattle.putting.specs.Laws.{said}
+use Rattle.putting.proofs.Laws.{said}
 use Rattle.definition.specs.Report.{field, inspectionBytes, branchBytes}
 use denote.Ref.{now}
 use native.Mathlib.Omega.{arith}
@@ -13,7 +13,7 @@ use Rattle.description.specs.declared.Instr.{Instr}
 use Rattle.measuring.specs.Here.{row-here, stands-here, some-here}
 use Rattle.recording.specs.Writes.{exact, said-exact, wrote-none}
 use Rattle.recording.specs.Values.{here-as, small-here}
-use Rattle.writing.specs.Tagged.{as-record, as-inspection, as-branch, as-nothing}
+use Rattle.writing.proofs.Tagged.{as-record, as-inspection, as-branch, as-nothing}
 use borrow.Author.Needs.{needs}
 use Rattle.writing.proofs.put_instr.Statement.{statement}
 use Rattle.writing.proofs.put_instr.Tie as tie

@@ -2,8 +2,8 @@
 use denote.Ref.{now}
 use native.Mathlib.Omega.{arith}
 use mathlib.Core.Path.{_≡_, refl}
-use Rattle.le.specs.Laws.{and-then, same-length as same-long}
-use Rattle.putting.specs.Laws.{said}
+use Rattle.le.proofs.Laws.{and-then, same-length as same-long}
+use Rattle.putting.proofs.Laws.{said}
 use Rattle.layout.specs.Layout.{inputAt}
 use Rattle.layout.specs.Read.{params-is}
 use Rattle.definition.specs.Module.{moduleOf}

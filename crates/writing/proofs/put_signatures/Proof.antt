@@ -5,7 +5,7 @@ use native.Mathlib.Omega.{arith}
 use mathlib.Core.Path.{_≡_, ap}
 use lib.ListN.{length}
 use Rattle.le.specs.Wrote.{Wrote}
-use Rattle.le.specs.Laws.{same-length as same-long}
+use Rattle.le.proofs.Laws.{same-length as same-long}
 use Rattle.measuring.specs.Span.{span}
 use Rattle.measuring.specs.Adds.{signatureAt}
 use Rattle.recording.specs.Writes.{said-exact, span-start, span-fits, span-turn}

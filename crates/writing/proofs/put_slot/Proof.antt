@@ -1,7 +1,7 @@
 -- `writing::put_slot` meets its contract.
 use denote.Ref.{now}
-use Rattle.le.specs.Laws.{and-then}
-use Rattle.putting.specs.Laws.{said}
+use Rattle.le.proofs.Laws.{and-then}
+use Rattle.putting.proofs.Laws.{said}
 use Rattle.recording.specs.Writes.{slot-bytes}
 use borrow.Author.Needs.{needs}
 use Rattle.writing.proofs.put_slot.Statement.{statement}

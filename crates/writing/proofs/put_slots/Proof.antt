@@ -5,7 +5,7 @@ use denote.Ref.{now}
 use native.Mathlib.Omega.{arith}
 use lib.ListN.{length}
 use Rattle.le.specs.Wrote.{Wrote}
-use Rattle.le.specs.Laws.{same-length as same-long}
+use Rattle.le.proofs.Laws.{same-length as same-long}
 use Rattle.measuring.specs.Span.{span}
 use Rattle.recording.specs.Writes.{slotFrom, exact, span-start, span-fits, span-turn, slot-long, said-exact}
 use Rattle.writing.proofs.put_slots.Statement.{statement}

@@ -2,9 +2,9 @@
 use mathlib.Core.Path.{_∙_}
 use denote.Ref.{now}
 use native.Mathlib.Omega.{arith}
-use Rattle.le.specs.Laws.{and-then, same-length as same-long}
-use Rattle.putting.specs.Laws.{said}
-use Rattle.writing.specs.Whole.{report-parts, report-room, slots-room}
+use Rattle.le.proofs.Laws.{and-then, same-length as same-long}
+use Rattle.putting.proofs.Laws.{said}
+use Rattle.writing.proofs.Whole.{report-parts, report-room, slots-room}
 use Rattle.writing.proofs.write.Statement.{statement}
 use Rattle.writing.proofs.write.Tie as tie
 

@@ -1,7 +1,7 @@
 -- `rows::keep_locals` meets its contract, by whether the local that is given is one of them.
 use Rattle.rows.specs.Left.{locals-beside}
 use Rattle.words.specs.Rows.{cellsAt}
-use Rattle.words.specs.RowLaws.{cellsAt-length}
+use Rattle.words.proofs.RowLaws.{cellsAt-length}
 use denote.Ref.{now}
 use borrow.Author.Needs.{needs}
 use Rattle.rows.proofs.joining.keep_locals.Statement.{statement}

@@ -1,0 +1,51 @@
+-- Demand 3 of the call: what it accepts with is the bytes of a consistent report.
+use Prim.Native.Nat.{ℕ}
+use mathlib.Core.Path.{_≡_, ap}
+use mathlib.Core.Bool.{Bool, true, false, cond}
+use mathlib.Core.List.{List, _++_}
+use lib.Dec.{ltb}
+use lib.ListN.{length, drop, replicate}
+use Rattle.answers.specs.declared.Answer.the-variants.{Accepted}
+use Rattle.definition.specs.Module.{moduleOf}
+use Rattle.definition.specs.Form.{nowhere}
+use Rattle.definition.specs.Report.{Report, reportBytes}
+use Rattle.definition.specs.Call.{Decided, reported, turned, decide, Outcome, turnedBack, delivered, outcomeOf, call}
+use Rattle.masks.proofs.Both.{never}
+use Rattle.consistent.specs.Consistent.{Consistent}
+use Rattle.consistent.proofs.Theorem.{consistent}
+
+-- what an accepted call leaves in its buffer
+pub record Left (d : Decided) (o : Outcome) (buf : List ℕ) (long steps : ℕ) : Type 0 where
+  pub report : Report
+  pub decides : d ≡ reported report steps
+  pub size : length (reportBytes report) ≡ long
+  pub bytes : o .report ≡ reportBytes report ++ drop long buf
+
+outcome-left : (d : Decided) (ws buf : List ℕ) (long steps : ℕ) → outcomeOf d ws buf .answer ≡ Accepted long steps → Left d (outcomeOf d ws buf) buf long steps
+unfolding outcomeOf delivered turnedBack
+outcome-left (turned r) ws buf long steps h = never (cc)
+outcome-left (reported r k) ws buf long steps h = go (ltb (length buf) (length (reportBytes r))) h
+  where
+    sent : Outcome
+    sent = record { answer = Accepted (length (reportBytes r)) k; report = reportBytes r ++ drop (length (reportBytes r)) buf; workspace = replicate (length ws) 0 }
+
+    go : (b : Bool) → cond b (turnedBack (nowhere 6 k) ws buf) sent .answer ≡ Accepted long steps
+        → Left (reported r k) (cond b (turnedBack (nowhere 6 k) ws buf) sent) buf long steps
+    go true h = never (cc)
+    go false h =
+        let l : length (reportBytes r) ≡ long = cc in
+        let e : k ≡ steps = cc in
+        record { report = r; decides = ap (reported r) e; size = l; bytes = ap (λ (n : ℕ). reportBytes r ++ drop n buf) l }
+
+pub accepted-left : (s ws buf : List ℕ) (limit long steps : ℕ) → call s ws buf limit .answer ≡ Accepted long steps
+    → Left (decide s (length ws) limit) (call s ws buf limit) buf long steps
+unfolding call
+accepted-left s ws buf limit long steps h = outcome-left (decide s (length ws) limit) ws buf long steps h
+
+-- THEOREM (demand 3, of the call)
+pub accepted-consistent : (s ws buf : List ℕ) (limit long steps : ℕ) → call s ws buf limit .answer ≡ Accepted long steps
+    → (r : Report) × Consistent (moduleOf s) r × (length (reportBytes r) ≡ long) × (call s ws buf limit .report ≡ reportBytes r ++ drop long buf)
+unfolding call
+accepted-consistent s ws buf limit long steps h =
+    let d = outcome-left (decide s (length ws) limit) ws buf long steps h in
+    (d .report, consistent s (length ws) limit (d .report) steps (d .decides), d .size, d .bytes)

@@ -1,0 +1,52 @@
+-- A description of good form: no call takes more than its callee has parameters.
+use Prim.Native.Nat.{ℕ, _<_, _≤_}
+use native.Mathlib.Omega.{arith}
+use mathlib.Core.Path.{_≡_, refl, ap, _∙_}
+use mathlib.Core.Bool.{Bool, true, false}
+use mathlib.Core.List.{List, []}
+use lib.Dec.{ltb}
+use lib.ListN.{length, getD, take, length-map, length-take, List·getD-eq-default}
+use lib.Seq.{getD-take}
+use borrow.Author.Tests.{ltb-true, ltb-false}
+use Rattle.definition.specs.declared.Form.the-variants.{Fine}
+use Rattle.definition.specs.Module.{Module, Chunk, Line, moduleOf}
+use Rattle.definition.specs.Leaves.{lineAt, noLine}
+use Rattle.definition.specs.Start.{declaredParams, firstFacts}
+use Rattle.definition.specs.Form.{callee, formOf}
+use Rattle.goodform.specs.Good.{noChunk, chunkNo, lineNo, LineGood, ChunkGood}
+use Rattle.goodform.proofs.Each.{mem-at, map-at}
+use Rattle.goodform.proofs.Theorem.{good-form}
+use Rattle.ruled.proofs.Told.{call-callee}
+use Rattle.consistent.specs.Consistent.{lineOf}
+use Rattle.consistent.proofs.Range.{CallsFit}
+
+-- the declared inputs of a callee are its parameters
+inputs-of : (m : Module) (a : ℕ) → m .signatures ≤ length (m .chunks) → a < m .signatures
+    → length (getD (firstFacts m .inputs) a []) ≡ length (chunkNo m a .params)
+unfolding firstFacts declaredParams chunkNo
+inputs-of m a l h =
+    let signed = take (m .signatures) (m .chunks) in
+    let k : a < length signed = omega (arith, length-take (m .signatures) (m .chunks)) in
+    ap length (map-at (declaredParams m) signed a noChunk [] k) ∙ rw (getD-take (m .signatures) (m .chunks) a noChunk h, length-map)
+
+-- an instruction that calls is one of the code
+in-code : (c : Chunk) (i : ℕ) → lineOf c i .instr .op ≡ 30 → i < length (c .code)
+unfolding lineAt
+in-code c i e = go (ltb i (length (c .code))) refl
+  where
+    go : (b : Bool) → ltb i (length (c .code)) ≡ b → i < length (c .code)
+    go true t = ltb-true i (length (c .code)) t
+    go false t =
+        let l = ltb-false i (length (c .code)) t in
+        absurd (omega (arith, ap (λ (x : Line). x .instr .op) (List·getD-eq-default (c .code) noLine l)))
+
+-- THEOREM: a call takes no more than its callee's parameters
+pub calls-fit : (s : List ℕ) (w : ℕ) → formOf s ≡ Fine w → CallsFit (moduleOf s)
+unfolding chunkNo lineNo lineAt
+calls-fit s w h c k i e =
+    let good = good-form s w h in
+    let (n, l, q) = mem-at noChunk (moduleOf s .chunks) k in
+    let chunk : ChunkGood (moduleOf s) n c = rw q at (good .eachChunk n l) in
+    let line : LineGood (moduleOf s) c (lineOf c i) = chunk .lines i (in-code c i e) in
+    let a = inputs-of (moduleOf s) (lineOf c i .instr .a) (good .signatures) (line .callee (call-callee (lineOf c i .instr .op) e)) in
+    omega (arith, a, line .call e)

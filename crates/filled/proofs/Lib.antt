@@ -1,0 +1,9 @@
+pub mod Room
+pub mod Keep
+pub mod AtWork
+pub mod Chunks
+pub mod Orderly
+pub mod Slots
+pub mod Counts
+pub mod Begin
+pub mod Filled

@@ -1,0 +1,5 @@
+pub mod Lists
+pub mod Frames
+pub mod Cells
+pub mod Slots
+pub mod Gifts

@@ -1,0 +1,14 @@
+pub mod Places
+pub mod Tests
+pub mod Each
+pub mod Chunks
+pub mod Placed
+pub mod Faults
+pub mod Walk
+pub mod Front
+pub mod Sums
+pub mod Tables
+pub mod Late
+pub mod Ordered
+pub mod Theorem
+pub mod Admitted

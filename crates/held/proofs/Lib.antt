@@ -1,0 +1,2 @@
+pub mod Args
+pub mod Visits

@@ -1,0 +1,6 @@
+pub mod Flat
+pub mod Lists
+pub mod Masks
+pub mod Extents
+pub mod Flows
+pub mod Cells

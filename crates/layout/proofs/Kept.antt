@@ -1,0 +1,293 @@
+-- Writes that keep the index: v has the index words of ws. A write to words that are none of the index's does, and nearly every write of the run
+-- is one: to the reply, a slot, an input, a result, a stack place or local of a row, a row's height, the queue. The other two are the last word
+-- of a slot, whose mark stays, and the word that says whether a chunk suspends.
+use Prim.Native.Nat.{ℕ, _+_, _*_, _/_, _<_, _≤_}
+use mathlib.Core.Path.{_≡_, refl, sym, ap, _∙_}
+use mathlib.Core.Bool.{Bool, true, false, not}
+use mathlib.Core.List.{List}
+use mathlib.Core.Logic.{_⊎_, inl, inr}
+use native.Mathlib.Omega.{arith}
+use borrow.Author.Tests.{ltb-true, ltb-false}
+use lib.Dec.{eqb, ltb}
+use lib.ListN.{length, getD, set, length-set}
+use lib.Seq.{getD-set-same, getD-set-other}
+use Rattle.cells.specs.declared.Cell.{Cell}
+use Rattle.ring.specs.declared.Queue.{Queue}
+use Rattle.words.specs.Layout.{putCell, copyN}
+use Rattle.words.proofs.Laws.{length-putCell, putCell-out, length-copyN, copyN-out}
+use Rattle.ring.specs.Ring.{pushed}
+use Rattle.definition.specs.Module.{Module, moduleOf}
+use Rattle.goodform.specs.Good.{chunkNo, rowCells, wordsOf}
+use Rattle.layout.specs.Layout.{areaCells, areaOf, numbersAt, slotAt, inputAt, resultAt, rowsAt, rowAt, placeAt, localAt}
+use Rattle.layout.specs.Indexed.{Indexed, NumbersHold, suspendsAt, chunkAt}
+use Rattle.layout.specs.Apart.{by-order, row-before, area-apart, areas-behind, numbers-first, slots-first, numbers-in, slots-in, inputs-begin, inputs-first, result-begins, result-next, rows-begin, row-begins, row-apart, row-in-area, row-in, rows-in-area, slots-apart, slots-behind, place-in-row, local-in-row}
+
+pub record Kept (m : Module) (ws v : List ℕ) : Type 0 where
+  pub long : length v ≡ length ws
+  pub numbers : (n k : ℕ) → n < length (m .chunks) → k < 10 → (k ≡ 6 → ⊥) → getD v (numbersAt n + k) 0 ≡ getD ws (numbersAt n + k) 0
+  pub fields : (n i : ℕ) → n < length (m .chunks) → i < length (chunkNo m n .code) → getD v (rowAt m n i + 1) 0 ≡ getD ws (rowAt m n i + 1) 0
+  pub marks : (n : ℕ) → n < m .slots → getD v (slotAt m n + 15) 0 / 65536 ≡ getD ws (slotAt m n + 15) 0 / 65536
+
+-- and which chunks suspend stays too
+pub record Steady (m : Module) (ws v : List ℕ) : Type 0 where
+  pub kept : Kept m ws v
+  pub suspends : (n : ℕ) → n < length (m .chunks) → getD v (numbersAt n + 6) 0 ≡ getD ws (numbersAt n + 6) 0
+
+-- ---- what is kept
+numbers-keep : (s ws v : List ℕ) (n : ℕ) → n < length (moduleOf s .chunks) → Kept (moduleOf s) ws v → NumbersHold s ws n → NumbersHold s v n
+numbers-keep s ws v n h k x =
+    record {
+      at = let z : numbersAt n ≡ numbersAt n + 0 = omega arith in ap (λ (j : ℕ). getD v j 0) z ∙ word 0 (omega arith) (λ e. omega arith) ∙ ap (λ (j : ℕ). getD ws j 0) (sym z) ∙ x .at;
+      rows = word 1 (omega arith) (λ e. omega arith) ∙ x .rows;
+      count = word 2 (omega arith) (λ e. omega arith) ∙ x .count;
+      locals = word 3 (omega arith) (λ e. omega arith) ∙ x .locals;
+      stack = word 4 (omega arith) (λ e. omega arith) ∙ x .stack;
+      reachable = word 5 (omega arith) (λ e. omega arith) ∙ x .reachable;
+      inputs = word 7 (omega arith) (λ e. omega arith) ∙ x .inputs;
+      params = word 8 (omega arith) (λ e. omega arith) ∙ x .params;
+      streams = word 9 (omega arith) (λ e. omega arith) ∙ x .streams;
+    }
+  where
+    word : (j : ℕ) → j < 10 → (j ≡ 6 → ⊥) → getD v (numbersAt n + j) 0 ≡ getD ws (numbersAt n + j) 0
+    word j l d = k .numbers n j h l d
+
+pub indexed-keep : (s ws v : List ℕ) → Kept (moduleOf s) ws v → Indexed s ws → Indexed s v
+indexed-keep s ws v k x =
+    record {
+      good = x .good;
+      room = omega (arith, x .room, k .long);
+      numbers = λ n h. numbers-keep s ws v n h k (x .numbers n h);
+      fields = λ n i h l. k .fields n i h l ∙ x .fields n i h l;
+      marks = λ n h. k .marks n h ∙ x .marks n h;
+    }
+
+pub indexed-steady : (s ws v : List ℕ) → Steady (moduleOf s) ws v → Indexed s ws → Indexed s v
+indexed-steady s ws v k x = indexed-keep s ws v (k .kept) x
+
+pub suspends-steady : (s ws v : List ℕ) (n : ℕ) → Steady (moduleOf s) ws v → n < length (moduleOf s .chunks) → suspendsAt v n ≡ suspendsAt ws n
+unfolding suspendsAt
+suspends-steady s ws v n k h = ap (λ (w : ℕ). not (eqb w 0)) (k .suspends n h)
+
+-- a chunk's numbers stay
+pub chunk-steady : (s ws v : List ℕ) (n : ℕ) → Steady (moduleOf s) ws v → n < length (moduleOf s .chunks) → chunkAt s v n ≡ chunkAt s ws n
+unfolding chunkAt
+chunk-steady s ws v n k h = rw (suspends-steady s ws v n k h)
+
+pub kept-trans : (m : Module) (ws v u : List ℕ) → Kept m ws v → Kept m v u → Kept m ws u
+kept-trans m ws v u a b =
+    record {
+      long = b .long ∙ a .long;
+      numbers = λ n k h l d. b .numbers n k h l d ∙ a .numbers n k h l d;
+      fields = λ n i h l. b .fields n i h l ∙ a .fields n i h l;
+      marks = λ n h. b .marks n h ∙ a .marks n h;
+    }
+
+pub steady-refl : (m : Module) (ws : List ℕ) → Steady m ws ws
+steady-refl m ws =
+    record {
+      kept = record { long = refl; numbers = λ n k h l d. refl; fields = λ n i h l. refl; marks = λ n h. refl };
+      suspends = λ n h. refl;
+    }
+
+pub steady-trans : (m : Module) (ws v u : List ℕ) → Steady m ws v → Steady m v u → Steady m ws u
+steady-trans m ws v u a b =
+    record { kept = kept-trans m ws v u (a .kept) (b .kept); suspends = λ n h. b .suspends n h ∙ a .suspends n h }
+
+-- ---- words that are none of the index's: len words from at on
+pub record Free (m : Module) (at len : ℕ) : Type 0 where
+  pub numbers : (n k : ℕ) → n < length (m .chunks) → k < 10 → at ≤ numbersAt n + k → numbersAt n + k < at + len → ⊥
+  pub fields : (n i : ℕ) → n < length (m .chunks) → i < length (chunkNo m n .code) → at ≤ rowAt m n i + 1 → rowAt m n i + 1 < at + len → ⊥
+  pub marks : (n : ℕ) → n < m .slots → at ≤ slotAt m n + 15 → slotAt m n + 15 < at + len → ⊥
+
+outside : (at len j : ℕ) → (at ≤ j → j < at + len → ⊥) → (j < at) ⊎ (at + len ≤ j)
+outside at len j d = go (ltb j at) (ltb j (at + len)) refl refl
+  where
+    go : (a b : Bool) → ltb j at ≡ a → ltb j (at + len) ≡ b → (j < at) ⊎ (at + len ≤ j)
+    go true b p q = inl (ltb-true j at p)
+    go false true p q = absurd (d (ltb-false j at p) (ltb-true j (at + len) q))
+    go false false p q = inr (ltb-false j (at + len) q)
+
+-- a write to free words is steady
+pub steady-free : (m : Module) (at len : ℕ) (ws v : List ℕ) → Free m at len → length v ≡ length ws
+    → ((j : ℕ) → (j < at) ⊎ (at + len ≤ j) → getD v j 0 ≡ getD ws j 0) → Steady m ws v
+steady-free m at len ws v f e same =
+    record {
+      kept =
+          record {
+            long = e;
+            numbers = λ n k h l d. same (numbersAt n + k) (outside at len _ (f .numbers n k h l));
+            fields = λ n i h l. same (rowAt m n i + 1) (outside at len _ (f .fields n i h l));
+            marks = λ n h. ap (λ (w : ℕ). w / 65536) (same (slotAt m n + 15) (outside at len _ (f .marks n h)));
+          };
+      suspends = λ n h. same (numbersAt n + 6) (outside at len _ (f .numbers n 6 h (omega arith)));
+    }
+
+-- ---- which words are free
+-- before the chunks' numbers, and behind W
+pub front-free : (m : Module) (at len : ℕ) → at + len ≤ 64 → Free m at len
+front-free m at len h =
+    record {
+      numbers = λ n k l j a b. omega arith;
+      fields = λ n i l j a b. omega (arith, areas-behind m n, row-begins m n i);
+      marks = λ n l a b. omega (arith, slots-behind m n);
+    }
+
+pub queue-free : (m : Module) (at len : ℕ) → wordsOf m ≤ at → Free m at len
+queue-free m at len h =
+    record {
+      numbers = λ n k l j a b. omega (arith, numbers-in m n l);
+      fields = λ n i l j a b. omega (arith, row-in m n i l j);
+      marks = λ n l a b. omega (arith, slots-in m n l);
+    }
+
+-- a slot but its last word
+pub slot-free : (m : Module) (k at len : ℕ) → k < m .slots → slotAt m k ≤ at → at + len ≤ slotAt m k + 15 → Free m at len
+slot-free m k at len h below above =
+    record {
+      numbers = λ n j l i a b. omega (arith, numbers-first m n k l);
+      fields = λ n i l j a b. omega (arith, slots-first m k n h, row-begins m n i);
+      marks = λ n l a b. by-order n k (λ o. omega (arith, slots-apart m n k o)) (λ e. omega (arith, ap (slotAt m) e)) (λ o. omega (arith, slots-apart m k n o));
+    }
+
+-- in the area of the chunk k, apart from the second word of each of its rows
+in-area : (m : Module) (k at len : ℕ) → k < length (m .chunks) → 16 * areaOf m k ≤ at → at + len ≤ 16 * (areaOf m k + areaCells (chunkNo m k))
+    → ((i : ℕ) → i < length (chunkNo m k .code) → at ≤ rowAt m k i + 1 → rowAt m k i + 1 < at + len → ⊥) → Free m at len
+in-area m k at len h below above apart =
+    record {
+      numbers = λ n j l i a b. omega (arith, areas-behind m k);
+      fields =
+          λ n i l j a b. by-order n k
+          (λ o. omega (arith, row-before m n i k j o (omega arith)))
+          (λ e. apart i (rw e at j) (rw e at a) (rw e at b))
+          (λ o. omega (arith, area-apart m k n o (omega arith), row-begins m n i));
+      marks = λ n l a b. omega (arith, slots-first m n k l);
+    }
+
+-- the inputs and the result of a chunk
+pub facts-free : (m : Module) (k at len : ℕ) → k < length (m .chunks) → 16 * areaOf m k ≤ at → at + len ≤ rowsAt m k → Free m at len
+facts-free m k at len h below above =
+    in-area m k at len h below (omega (arith, rows-in-area m k)) (λ i l a b. omega (arith, rows-begin m k i))
+
+-- the row of the instruction j of the chunk k, before or behind its second word
+pub row-free : (m : Module) (k j at len : ℕ) → k < length (m .chunks) → j < length (chunkNo m k .code) → rowAt m k j ≤ at
+    → at + len ≤ rowAt m k j + 16 * rowCells (chunkNo m k) → (at + len ≤ rowAt m k j + 1) ⊎ (rowAt m k j + 2 ≤ at) → Free m at len
+row-free m k j at len h l below above side =
+    in-area m k at len h (omega (arith, row-begins m k j)) (omega (arith, row-in-area m k j l))
+    (λ i o a b. by-order i j
+    (λ q. omega (arith, row-apart m k i j q))
+    (λ e. same side (rw e at a) (rw e at b))
+    (λ q. omega (arith, row-apart m k j i q)))
+  where
+    same : (at + len ≤ rowAt m k j + 1) ⊎ (rowAt m k j + 2 ≤ at) → at ≤ rowAt m k j + 1 → rowAt m k j + 1 < at + len → ⊥
+    same (inl q) a b = omega arith
+    same (inr q) a b = omega arith
+
+-- ---- the cells of the run, and the height of a row
+pub reply-free : (m : Module) → Free m 0 15
+reply-free m = front-free m 0 15 (omega arith)
+
+pub slot-cell-free : (m : Module) (k : ℕ) → k < m .slots → Free m (slotAt m k) 15
+slot-cell-free m k h = slot-free m k (slotAt m k) 15 h (omega arith) (omega arith)
+
+module _ (m : Module) (n : ℕ) (h : n < length (m .chunks)) where
+  pub input-free : (k : ℕ) → k < length (chunkNo m n .params) → Free m (inputAt m n k) 15
+  input-free k l = facts-free m n (inputAt m n k) 15 h (inputs-begin m n k) (omega (arith, inputs-first m n k l, result-next m n))
+
+  pub result-free : Free m (resultAt m n) 15
+  result-free = facts-free m n (resultAt m n) 15 h (result-begins m n) (omega (arith, result-next m n))
+
+  pub place-free : (i p : ℕ) → i < length (chunkNo m n .code) → p < chunkNo m n .stack → Free m (placeAt (rowAt m n i) p) 15
+  place-free i p l o = row-free m n i _ 15 h l (omega arith) (omega (arith, place-in-row (chunkNo m n) (rowAt m n i) p o)) (inr (omega arith))
+
+  pub local-free : (i k : ℕ) → i < length (chunkNo m n .code) → k < chunkNo m n .locals → Free m (localAt (rowAt m n i) (chunkNo m n .stack) k) 15
+  local-free i k l o = row-free m n i _ 15 h l (omega arith) (omega (arith, local-in-row (chunkNo m n) (rowAt m n i) k o)) (inr (omega arith))
+
+  pub height-free : (i : ℕ) → i < length (chunkNo m n .code) → Free m (rowAt m n i) 1
+  height-free i l = row-free m n i (rowAt m n i) 1 h l (omega arith) (omega arith) (inl (omega arith))
+
+-- ---- the writes
+pub steady-put : (m : Module) (ws : List ℕ) (at : ℕ) (c : Cell) → Free m at 15 → Steady m ws (putCell ws at c)
+steady-put m ws at c f = steady-free m at 15 ws (putCell ws at c) f (length-putCell ws at c) (λ j o. putCell-out ws at c j o)
+
+pub steady-copy : (m : Module) (ws : List ℕ) (a b n : ℕ) → Free m b n → Steady m ws (copyN ws a b n)
+steady-copy m ws a b n f = steady-free m b n ws (copyN ws a b n) f (length-copyN ws a b n) (λ j o. copyN-out ws a b n j o)
+
+pub steady-set : (m : Module) (ws : List ℕ) (at x : ℕ) → Free m at 1 → Steady m ws (set ws at x)
+steady-set m ws at x f = steady-free m at 1 ws (set ws at x) f (length-set ws at x) other
+  where
+    other : (j : ℕ) → (j < at) ⊎ (at + 1 ≤ j) → getD (set ws at x) j 0 ≡ getD ws j 0
+    other j (inl o) = getD-set-other ws at j x 0 (λ e. omega arith)
+    other j (inr o) = getD-set-other ws at j x 0 (λ e. omega arith)
+
+pub steady-push : (m : Module) (ws : List ℕ) (base : ℕ) (q : Queue) (x : ℕ) → wordsOf m ≤ base → Steady m ws (pushed ws base q x)
+unfolding pushed
+steady-push m ws base q x h = steady-set m ws _ x (queue-free m _ 1 (omega arith))
+
+-- the last word of a slot, its mark kept
+pub steady-mark : (m : Module) (ws : List ℕ) (k x : ℕ) → k < m .slots → slotAt m k + 15 < length ws → x / 65536 ≡ getD ws (slotAt m k + 15) 0 / 65536
+    → Steady m ws (set ws (slotAt m k + 15) x)
+steady-mark m ws k x h room e =
+    record {
+      kept =
+          record {
+            long = length-set ws at x;
+            numbers = λ n j l i d. other (numbersAt n + j) (λ q. omega (arith, numbers-first m n k l));
+            fields = λ n i l j. other (rowAt m n i + 1) (λ q. omega (arith, slots-first m k n h, row-begins m n i));
+            marks =
+                λ n l. by-order n k
+                (λ o. ap (λ (w : ℕ). w / 65536) (other (slotAt m n + 15) (λ q. omega (arith, slots-apart m n k o))))
+                (λ q. rw q (ap (λ (w : ℕ). w / 65536) (getD-set-same ws at x 0 room) ∙ e))
+                (λ o. ap (λ (w : ℕ). w / 65536) (other (slotAt m n + 15) (λ q. omega (arith, slots-apart m k n o))));
+          };
+      suspends = λ n l. other (numbersAt n + 6) (λ q. omega (arith, numbers-first m n k l));
+    }
+  where
+    at : ℕ
+    at = slotAt m k + 15
+
+    other : (j : ℕ) → (j ≡ at → ⊥) → getD (set ws at x) j 0 ≡ getD ws j 0
+    other j d = getD-set-other ws at j x 0 d
+
+-- as the code writes it: the mark, and new writes below it
+pub mark-same : (w u : ℕ) → u < 65536 → (w / 65536 * 65536 + u) / 65536 ≡ w / 65536
+mark-same w u h = omega arith
+
+-- a chunk is found to suspend
+pub kept-suspends : (m : Module) (ws : List ℕ) (c x : ℕ) → c < length (m .chunks) → Kept m ws (set ws (numbersAt c + 6) x)
+kept-suspends m ws c x h =
+    record {
+      long = length-set ws at x;
+      numbers = λ n k l o d. other (numbersAt n + k) (λ e. d (omega arith));
+      fields = λ n i l o. other (rowAt m n i + 1) (λ e. omega (arith, areas-behind m n, row-begins m n i));
+      marks = λ n l. ap (λ (w : ℕ). w / 65536) (other (slotAt m n + 15) (λ e. omega (arith, slots-behind m n)));
+    }
+  where
+    at : ℕ
+    at = numbersAt c + 6
+
+    other : (j : ℕ) → (j ≡ at → ⊥) → getD (set ws at x) j 0 ≡ getD ws j 0
+    other j d = getD-set-other ws at j x 0 d
+
+-- ---- the index after a write
+module _ (s ws : List ℕ) (x : Indexed s ws) where
+  pub indexed-put : (at : ℕ) (c : Cell) → Free (moduleOf s) at 15 → Indexed s (putCell ws at c)
+  indexed-put at c f = indexed-steady s ws (putCell ws at c) (steady-put (moduleOf s) ws at c f) x
+
+  pub indexed-copy : (a b n : ℕ) → Free (moduleOf s) b n → Indexed s (copyN ws a b n)
+  indexed-copy a b n f = indexed-steady s ws (copyN ws a b n) (steady-copy (moduleOf s) ws a b n f) x
+
+  pub indexed-set : (at w : ℕ) → Free (moduleOf s) at 1 → Indexed s (set ws at w)
+  indexed-set at w f = indexed-steady s ws (set ws at w) (steady-set (moduleOf s) ws at w f) x
+
+  pub indexed-push : (q : Queue) (w : ℕ) → Indexed s (pushed ws (wordsOf (moduleOf s)) q w)
+  indexed-push q w = indexed-steady s ws (pushed ws (wordsOf (moduleOf s)) q w) (steady-push (moduleOf s) ws (wordsOf (moduleOf s)) q w (omega arith)) x
+
+  pub indexed-mark : (k w : ℕ) → k < moduleOf s .slots → w / 65536 ≡ getD ws (slotAt (moduleOf s) k + 15) 0 / 65536
+      → Indexed s (set ws (slotAt (moduleOf s) k + 15) w)
+  indexed-mark k w h e =
+      indexed-steady s ws (set ws (slotAt (moduleOf s) k + 15) w)
+      (steady-mark (moduleOf s) ws k w h (omega (arith, slots-in (moduleOf s) k h, x .room)) e)
+      x
+
+  pub indexed-suspends : (c w : ℕ) → c < length (moduleOf s .chunks) → Indexed s (set ws (numbersAt c + 6) w)
+  indexed-suspends c w h = indexed-keep s ws (set ws (numbersAt c + 6) w) (kept-suspends (moduleOf s) ws c w h) x

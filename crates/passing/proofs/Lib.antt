@@ -1,0 +1,4 @@
+pub mod Cuts
+pub mod Meets
+pub mod Turns
+pub mod Twice

@@ -1,0 +1,4 @@
+pub mod Fine
+pub mod Wanted
+pub mod Checked
+pub mod Found

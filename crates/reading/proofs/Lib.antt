@@ -1,0 +1,7 @@
+pub mod Has
+pub mod Cells
+pub mod Walk
+pub mod Back
+pub mod Kept
+pub mod Runs
+pub mod Reports

@@ -1,0 +1,46 @@
+-- An instruction that narrows a local on one of its ways is a test, and does nothing else to the locals.
+use Prim.Native.Nat.{ℕ}
+use mathlib.Core.Path.{_≡_, refl, ap, _∙_}
+use mathlib.Core.Bool.{true}
+use mathlib.Core.Option.{none, some}
+use Rattle.flows.specs.declared.Predicate.{Predicate}
+use Rattle.ops.specs.declared.Exit.{Exit}
+use Rattle.ops.specs.declared.Exit.the-variants.{Next, Stops, Jumps, Ifs, Breaks, Restarts}
+use Rattle.ops.specs.declared.Acts.the-variants.{Still}
+use Rattle.ops.specs.declared.Rule.{Rule}
+use Rattle.ops.specs.Ops.{ruleOf}
+use Rattle.definition.specs.Outputs.{Visit, arg, instr, outputs, setting}
+use Rattle.definition.specs.Ways.{narrowing, kept, afterBy, after, setLocals}
+use Rattle.definition.specs.Report.{isTest}
+use Rattle.ruled.proofs.Tests.{Testing, test-rule}
+
+narrows-tests : (x : Exit) (p : Predicate) (target to r : ℕ) → narrowing x p target to ≡ some r → isTest x ≡ true
+unfolding narrowing isTest
+narrows-tests Next p target to r h = cc
+narrows-tests Stops p target to r h = cc
+narrows-tests Jumps p target to r h = cc
+narrows-tests Ifs p target to r h = refl
+narrows-tests Breaks p target to r h = refl
+narrows-tests Restarts p target to r h = cc
+
+-- only a test narrows
+pub narrowed-test : (op : ℕ) (p : Predicate) (target to r : ℕ) → narrowing (ruleOf op .exit) p target to ≡ some r → Testing (ruleOf op)
+narrowed-test op p target to r h = test-rule op (narrows-tests (ruleOf op .exit) p target to r h)
+
+pub narrowed-still : (op : ℕ) (p : Predicate) (target to r : ℕ) → narrowing (ruleOf op .exit) p target to ≡ some r → ruleOf op .acts ≡ Still
+narrowed-still op p target to r h = narrowed-test op p target to r h .acts
+
+-- so the locals leave as they came, and what is below the operands too
+pub narrowed-after : (v : Visit) (to r : ℕ) → v .rule ≡ ruleOf (instr v .op)
+    → narrowing (v .rule .exit) (arg v 0 .flow .predicate) (instr v .a) to ≡ some r
+    → after v ≡ kept v (outputs v) none
+unfolding after afterBy setting
+narrowed-after v to r e h =
+    let a : v .rule .acts ≡ Still = ap (λ (x : Rule). x .acts) e ∙ narrowed-still (instr v .op) _ _ _ _ (rw e at h) in
+    rw a
+
+pub narrowed-locals : (v : Visit) (to r : ℕ) → v .rule ≡ ruleOf (instr v .op)
+    → narrowing (v .rule .exit) (arg v 0 .flow .predicate) (instr v .a) to ≡ some r
+    → after v .locals ≡ v .locals
+unfolding kept setLocals
+narrowed-locals v to r e h = rw (narrowed-after v to r e h)
