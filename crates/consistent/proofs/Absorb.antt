@@ -30,10 +30,12 @@ use Rattle.definition.specs.Leaves.{joinAt, storedFlow, withFlows, writeFlow, w
 use Rattle.definition.specs.Start.{firstFacts}
 use Rattle.masks.proofs.Both.{or-left, or-right}
 use Rattle.goodform.proofs.Each.{joinCells-length}
-use Rattle.consistent.proofs.Basics.{or-true}
 use Rattle.consistent.proofs.Rows.{Grows, grows-of, over, over-wider, taken-at, In, Wider, wider-refl, wider-trans, at-still, at-has, at-wider}
 use Rattle.consistent.proofs.States.{cell-grows, cells-grows, cells-equals}
 use Rattle.consistent.specs.Consistent.{Private}
+
+or-true : (a b : Bool) → a ≡ true → (a || b) ≡ true
+or-true a b e = rw e
 
 union-grows : Grows union
 union-grows = grows-of union-joins

@@ -1,4 +1,3 @@
-pub mod Basics
 pub mod Rows
 pub mod States
 pub mod Absorb

@@ -1,13 +1,13 @@
 -- An admitted chunk that is reachable has an instruction, a signature and its parameters.
 use Prim.Native.Nat.{ℕ, zero, suc, _<_}
 use native.Mathlib.Omega.{arith}
-use mathlib.Core.Path.{_≡_, refl, sym, ap}
+use mathlib.Core.Path.{_≡_, refl, ap}
 use mathlib.Core.Bool.{Bool, true, false, not, cond, _&&_}
 use mathlib.Core.Option.{none, some}
 use mathlib.Core.List.{List, [], _∷_, List·Memᴰ}
 use lib.Dec.{eqb, leb}
 use lib.ListN.{length, getD}
-use borrow.Author.Tests.{eqb-true, leb-false}
+use borrow.Author.Tests.{eqb-true, leb-false, not-false}
 use Rattle.definition.specs.Module.{Module, Chunk}
 use Rattle.definition.specs.Start.{agree, admission, admitted}
 use Rattle.masks.proofs.Both.{or-left, or-right}
@@ -23,10 +23,6 @@ not-empty : (n : ℕ) → eqb n 0 ≡ false → 0 < n
 not-empty zero h = let z : _≡_ {A = ℕ} 0 1 = ap (λ (b : Bool). cond b 0 1) h in absurd (omega arith)
 not-empty (suc n) h = omega arith
 
-yes : (b : Bool) → not b ≡ false → b ≡ true
-yes true h = refl
-yes false h = sym h
-
 says : (m : Module) (c : Chunk) → admission m c ≡ 0 → Admitted m c
 unfolding admission
 says m c h =
@@ -35,7 +31,7 @@ says m c h =
     record {
       code = not-empty (length (c .code)) (or-left _ _ q);
       signed = leb-false (m .signatures) (c .number) (or-left _ _ p);
-      params = eqb-true (length (c .params)) (c .arity) (yes _ (or-right (eqb (length (c .code)) 0) _ q));
+      params = eqb-true (length (c .params)) (c .arity) (not-false _ (or-right (eqb (length (c .code)) 0) _ q));
     }
   where
     go : (a b : Bool) → _≡_ {A = ℕ} (cond a 9 (cond b 0 10)) 0 → a ≡ false
