@@ -2,7 +2,14 @@
 // locals and facts. Each of these is a small list of cases of its own.
 ghost use mathlib.Core.Path.{_≡_};
 ghost use Prim.Native.Nat.{_<_, _≤_};
+ghost use Rattle.masks.specs.Names.{BOOL, WORD};
 ghost use Rattle.ops.specs.Ops.{ruled, plain, noRule, ruleOf};
+ghost use Rattle.ops.specs.declared.Makes.the-variants.{Anything, Common, Kind, Slots};
+ghost use Rattle.ops.specs.declared.Others.the-variants.{Unknowns, Words};
+ghost use Rattle.ops.specs.declared.Asks.the-variants.{First, Every, Stored};
+ghost use Rattle.ops.specs.declared.Exit.the-variants.{Next};
+ghost use Rattle.ops.specs.declared.Acts.the-variants.{Still, Stores};
+ghost use Rattle.ops.specs.declared.Data.the-variants.{NoSlot};
 use masks::Mask;
 
 // The first output.
@@ -124,6 +131,74 @@ fn plain(makes: Makes, others: Others, asks: Asks) -> Rule
     ruled(makes, others, asks, Exit::Next, Acts::Still, Data::NoSlot)
 }
 
+// Outputs of the kinds that all operands have in common, which are all that is asked for.
+fn every(kinds: Mask, others: Others) -> Rule
+    ensures { λ r. ⌜ r ≡ plain (Common kinds) others (Every kinds) ⌝ }
+{
+    plain(Makes::Common(kinds), others, Asks::Every(kinds))
+}
+
+// A Bool out of what is compared.
+fn compares(asks: Asks) -> Rule
+    ensures { λ r. ⌜ r ≡ plain (Kind BOOL) Unknowns asks ⌝ }
+{
+    plain(Makes::Kind(Mask::BOOL), Others::Unknowns, asks)
+}
+
+// One kind made of another, and the outputs after it.
+fn turns(from: Mask, to: Mask, others: Others) -> Rule
+    ensures { λ r. ⌜ r ≡ plain (Kind to) others (First from) ⌝ }
+{
+    plain(Makes::Kind(to), others, Asks::First(from))
+}
+
+// A rule that is a way on and an act, and makes nothing of its own.
+fn leaves(asks: Asks, exit: Exit, acts: Acts) -> Rule
+    ensures { λ r. ⌜ r ≡ ruled Anything Unknowns asks exit acts NoSlot ⌝ }
+{
+    ruled(
+        Makes::Anything,
+        Others::Unknowns,
+        asks,
+        exit,
+        acts,
+        Data::NoSlot,
+    )
+}
+
+// What comes back: from a callee, from the host.
+fn answers(makes: Makes, asks: Asks, acts: Acts) -> Rule
+    ensures { λ r. ⌜ r ≡ ruled makes Unknowns asks Next acts NoSlot ⌝ }
+{
+    ruled(
+        makes,
+        Others::Unknowns,
+        asks,
+        Exit::Next,
+        acts,
+        Data::NoSlot,
+    )
+}
+
+fn reads(others: Others, asks: Asks, slots: Data) -> Rule
+    ensures { λ r. ⌜ r ≡ ruled Slots others asks Next Still slots ⌝ }
+{
+    ruled(Makes::Slots, others, asks, Exit::Next, Acts::Still, slots)
+}
+
+fn writes(slots: Data) -> Rule
+    ensures { λ r. ⌜ r ≡ ruled (Kind WORD) Words Stored Next Stores slots ⌝ }
+{
+    ruled(
+        Makes::Kind(Mask::WORD),
+        Others::Words,
+        Asks::Stored,
+        Exit::Next,
+        Acts::Stores,
+        slots,
+    )
+}
+
 // A place that is none has no rule, as Len.
 fn no_rule() -> Rule
     ensures { λ r. ⌜ r ≡ noRule ⌝ }
@@ -164,74 +239,27 @@ fn rules_0(op: u8) -> Rule
         // GetLocal
         1 => plain(Makes::Local, Others::Unknowns, Asks::Free),
         // SetLocal
-        2 => ruled(
-            Makes::Anything,
-            Others::Unknowns,
-            Asks::Free,
-            Exit::Next,
-            Acts::SetsLocal,
-            Data::NoSlot,
-        ),
+        2 => leaves(Asks::Free, Exit::Next, Acts::SetsLocal),
         // GetData
-        3 => ruled(
-            Makes::Slots,
-            Others::Unknowns,
-            Asks::Free,
-            Exit::Next,
-            Acts::Still,
-            Data::OneSlot,
-        ),
+        3 => reads(Others::Unknowns, Asks::Free, Data::OneSlot),
         // SetData
-        4 => ruled(
-            Makes::Kind(Mask::WORD),
-            Others::Words,
-            Asks::Stored,
-            Exit::Next,
-            Acts::Stores,
-            Data::OneSlot,
-        ),
+        4 => writes(Data::OneSlot),
         // GetDataIndexed
-        5 => ruled(
-            Makes::Slots,
+        5 => reads(
             Others::Words,
             Asks::Both(Mask::WORD, Mask::FALLBACK),
-            Exit::Next,
-            Acts::Still,
             Data::ManySlots,
         ),
         // SetDataIndexed
-        6 => ruled(
-            Makes::Kind(Mask::WORD),
-            Others::Words,
-            Asks::Stored,
-            Exit::Next,
-            Acts::Stores,
-            Data::ManySlots,
-        ),
+        6 => writes(Data::ManySlots),
         // BoundsCheck
-        7 => plain(
-            Makes::Kind(Mask::WORD),
-            Others::Words,
-            Asks::First(Mask::WORD),
-        ),
+        7 => turns(Mask::WORD, Mask::WORD, Others::Words),
         // Add
-        8 => plain(
-            Makes::Common(Mask::MIXED),
-            Others::Unknowns,
-            Asks::Every(Mask::MIXED),
-        ),
+        8 => every(Mask::MIXED, Others::Unknowns),
         // Sub
-        9 => plain(
-            Makes::Common(Mask::MIXED),
-            Others::Unknowns,
-            Asks::Every(Mask::MIXED),
-        ),
+        9 => every(Mask::MIXED, Others::Unknowns),
         // Mul
-        10 => plain(
-            Makes::Common(Mask::MIXED),
-            Others::Unknowns,
-            Asks::Every(Mask::MIXED),
-        ),
+        10 => every(Mask::MIXED, Others::Unknowns),
         _ => no_rule(),
     }
 }
@@ -242,54 +270,27 @@ fn rules_11(op: u8) -> Rule
 {
     match op {
         // Div
-        11 => plain(
-            Makes::Common(Mask::NUMERIC),
-            Others::Checked,
-            Asks::Every(Mask::NUMERIC),
-        ),
+        11 => every(Mask::NUMERIC, Others::Checked),
         // Mod
-        12 => plain(
-            Makes::Common(Mask::NUMERIC),
-            Others::Checked,
-            Asks::Every(Mask::NUMERIC),
-        ),
+        12 => every(Mask::NUMERIC, Others::Checked),
         // Neg
-        13 => plain(
-            Makes::Common(Mask::MIXED),
-            Others::Unknowns,
-            Asks::Every(Mask::MIXED),
-        ),
+        13 => every(Mask::MIXED, Others::Unknowns),
         // CmpEq
-        14 => plain(
-            Makes::Kind(Mask::BOOL),
-            Others::Unknowns,
-            Asks::Both(Mask::GUARDED, Mask::GUARDED),
-        ),
+        14 => compares(Asks::Both(Mask::GUARDED, Mask::GUARDED)),
         // CmpNe
-        15 => plain(
-            Makes::Kind(Mask::BOOL),
-            Others::Unknowns,
-            Asks::Both(Mask::GUARDED, Mask::GUARDED),
-        ),
+        15 => compares(Asks::Both(Mask::GUARDED, Mask::GUARDED)),
         // CmpLt
-        16 => plain(Makes::Kind(Mask::BOOL), Others::Unknowns, Asks::Ordered),
+        16 => compares(Asks::Ordered),
         // CmpGt
-        17 => plain(Makes::Kind(Mask::BOOL), Others::Unknowns, Asks::Ordered),
+        17 => compares(Asks::Ordered),
         // CmpLe
-        18 => plain(Makes::Kind(Mask::BOOL), Others::Unknowns, Asks::Ordered),
+        18 => compares(Asks::Ordered),
         // CmpGe
-        19 => plain(Makes::Kind(Mask::BOOL), Others::Unknowns, Asks::Ordered),
+        19 => compares(Asks::Ordered),
         // Not
         20 => plain(Makes::Negation, Others::Unknowns, Asks::First(Mask::BOOL)),
         // If
-        21 => ruled(
-            Makes::Anything,
-            Others::Unknowns,
-            Asks::First(Mask::BOOL),
-            Exit::Ifs,
-            Acts::Still,
-            Data::NoSlot,
-        ),
+        21 => leaves(Asks::First(Mask::BOOL), Exit::Ifs, Acts::Still),
         _ => no_rule(),
     }
 }
@@ -300,83 +301,27 @@ fn rules_22(op: u8) -> Rule
 {
     match op {
         // Else
-        22 => ruled(
-            Makes::Anything,
-            Others::Unknowns,
-            Asks::Free,
-            Exit::Jumps,
-            Acts::Still,
-            Data::NoSlot,
-        ),
+        22 => leaves(Asks::Free, Exit::Jumps, Acts::Still),
         // EndIf
         23 => plain(Makes::Anything, Others::Unknowns, Asks::Free),
         // Loop
         24 => plain(Makes::Anything, Others::Unknowns, Asks::Free),
         // EndLoop
-        25 => ruled(
-            Makes::Anything,
-            Others::Unknowns,
-            Asks::Free,
-            Exit::Jumps,
-            Acts::Still,
-            Data::NoSlot,
-        ),
+        25 => leaves(Asks::Free, Exit::Jumps, Acts::Still),
         // Break
-        26 => ruled(
-            Makes::Anything,
-            Others::Unknowns,
-            Asks::Free,
-            Exit::Jumps,
-            Acts::Still,
-            Data::NoSlot,
-        ),
+        26 => leaves(Asks::Free, Exit::Jumps, Acts::Still),
         // BreakIf
-        27 => ruled(
-            Makes::Anything,
-            Others::Unknowns,
-            Asks::First(Mask::BOOL),
-            Exit::Breaks,
-            Acts::Still,
-            Data::NoSlot,
-        ),
+        27 => leaves(Asks::First(Mask::BOOL), Exit::Breaks, Acts::Still),
         // Stream
         28 => plain(Makes::Anything, Others::Unknowns, Asks::Free),
         // Reset
-        29 => ruled(
-            Makes::Anything,
-            Others::Unknowns,
-            Asks::Free,
-            Exit::Restarts,
-            Acts::Resets,
-            Data::NoSlot,
-        ),
+        29 => leaves(Asks::Free, Exit::Restarts, Acts::Resets),
         // Call
-        30 => ruled(
-            Makes::Result,
-            Others::Unknowns,
-            Asks::Free,
-            Exit::Next,
-            Acts::Calls,
-            Data::NoSlot,
-        ),
+        30 => answers(Makes::Result, Asks::Free, Acts::Calls),
         // Return
-        31 => ruled(
-            Makes::Anything,
-            Others::Unknowns,
-            Asks::Returned,
-            Exit::Stops,
-            Acts::Returns,
-            Data::NoSlot,
-        ),
+        31 => leaves(Asks::Returned, Exit::Stops, Acts::Returns),
         // Yield
-        32 => ruled(
-            Makes::Reply,
-            Others::Unknowns,
-            Asks::Yielded,
-            Exit::Next,
-            Acts::Yields,
-            Data::NoSlot,
-        ),
+        32 => answers(Makes::Reply, Asks::Yielded, Acts::Yields),
         _ => no_rule(),
     }
 }
@@ -409,17 +354,9 @@ fn rules_33(op: u8) -> Rule
         // IsStruct
         41 => plain(Makes::Operand, Others::Tested(Mask::STRUCT), Asks::Free),
         // IntToFloat
-        42 => plain(
-            Makes::Kind(Mask::FLOAT),
-            Others::Unknowns,
-            Asks::First(Mask::WORD),
-        ),
+        42 => turns(Mask::WORD, Mask::FLOAT, Others::Unknowns),
         // FloatToInt
-        43 => plain(
-            Makes::Kind(Mask::WORD),
-            Others::Unknowns,
-            Asks::First(Mask::FLOAT),
-        ),
+        43 => turns(Mask::FLOAT, Mask::WORD, Others::Unknowns),
         _ => no_rule(),
     }
 }
@@ -430,29 +367,13 @@ fn rules_44(op: u8) -> Rule
 {
     match op {
         // WordToByte
-        44 => plain(
-            Makes::Kind(Mask::BYTE),
-            Others::Unknowns,
-            Asks::First(Mask::WORD),
-        ),
+        44 => turns(Mask::WORD, Mask::BYTE, Others::Unknowns),
         // ByteToWord
-        45 => plain(
-            Makes::Kind(Mask::WORD),
-            Others::Unknowns,
-            Asks::First(Mask::BYTE),
-        ),
+        45 => turns(Mask::BYTE, Mask::WORD, Others::Unknowns),
         // WordToFixed
-        46 => plain(
-            Makes::Kind(Mask::FIXED),
-            Others::Unknowns,
-            Asks::First(Mask::WORD),
-        ),
+        46 => turns(Mask::WORD, Mask::FIXED, Others::Unknowns),
         // FixedToWord
-        47 => plain(
-            Makes::Kind(Mask::WORD),
-            Others::Unknowns,
-            Asks::First(Mask::FIXED),
-        ),
+        47 => turns(Mask::FIXED, Mask::WORD, Others::Unknowns),
         // FixedMul
         48 => plain(
             Makes::Kind(Mask::FIXED),
@@ -466,38 +387,15 @@ fn rules_44(op: u8) -> Rule
             Asks::Same(Mask::FIXED),
         ),
         // Trap
-        50 => ruled(
-            Makes::Anything,
-            Others::Unknowns,
-            Asks::Free,
-            Exit::Stops,
-            Acts::Still,
-            Data::NoSlot,
-        ),
+        50 => leaves(Asks::Free, Exit::Stops, Acts::Still),
         // CheckedAdd
-        51 => plain(
-            Makes::Common(Mask::NUMERIC),
-            Others::Checked,
-            Asks::Every(Mask::NUMERIC),
-        ),
+        51 => every(Mask::NUMERIC, Others::Checked),
         // CheckedSub
-        52 => plain(
-            Makes::Common(Mask::NUMERIC),
-            Others::Checked,
-            Asks::Every(Mask::NUMERIC),
-        ),
+        52 => every(Mask::NUMERIC, Others::Checked),
         // CheckedMul
-        53 => plain(
-            Makes::Common(Mask::NUMERIC),
-            Others::Checked,
-            Asks::Every(Mask::NUMERIC),
-        ),
+        53 => every(Mask::NUMERIC, Others::Checked),
         // CheckedNeg
-        54 => plain(
-            Makes::Common(Mask::EXACT),
-            Others::Checked,
-            Asks::Every(Mask::EXACT),
-        ),
+        54 => every(Mask::EXACT, Others::Checked),
         _ => no_rule(),
     }
 }
@@ -508,17 +406,9 @@ fn rules_55(op: u8) -> Rule
 {
     match op {
         // CheckedDiv
-        55 => plain(
-            Makes::Common(Mask::NUMERIC),
-            Others::Checked,
-            Asks::Every(Mask::NUMERIC),
-        ),
+        55 => every(Mask::NUMERIC, Others::Checked),
         // CheckedMod
-        56 => plain(
-            Makes::Common(Mask::WHOLE),
-            Others::Checked,
-            Asks::Every(Mask::WHOLE),
-        ),
+        56 => every(Mask::WHOLE, Others::Checked),
         // PushImmediate
         57 => plain(Makes::Immediate, Others::Unknowns, Asks::Free),
         // PopN

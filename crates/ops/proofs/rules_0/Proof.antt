@@ -11,32 +11,32 @@ plain-requires c κs = tt
 plain-requires-2 : tie.Need-plain-requires-2
 plain-requires-2 c κs = tt
 
-ruled-requires : tie.Need-ruled-requires
-ruled-requires c κs = tt
+leaves-requires : tie.Need-leaves-requires
+leaves-requires c κs = tt
 
-ruled-requires-2 : tie.Need-ruled-requires-2
-ruled-requires-2 c κs = tt
+reads-requires : tie.Need-reads-requires
+reads-requires c κs = tt
 
-ruled-requires-3 : tie.Need-ruled-requires-3
-ruled-requires-3 c κs = tt
+writes-requires : tie.Need-writes-requires
+writes-requires c κs = tt
 
-ruled-requires-4 : tie.Need-ruled-requires-4
-ruled-requires-4 c κs = tt
+reads-requires-2 : tie.Need-reads-requires-2
+reads-requires-2 c κs = tt
 
-ruled-requires-5 : tie.Need-ruled-requires-5
-ruled-requires-5 c κs = tt
+writes-requires-2 : tie.Need-writes-requires-2
+writes-requires-2 c κs = tt
 
-plain-requires-3 : tie.Need-plain-requires-3
-plain-requires-3 c κs = tt
+turns-requires : tie.Need-turns-requires
+turns-requires c κs = tt
 
-plain-requires-4 : tie.Need-plain-requires-4
-plain-requires-4 c κs = tt
+every-requires : tie.Need-every-requires
+every-requires c κs = tt
 
-plain-requires-5 : tie.Need-plain-requires-5
-plain-requires-5 c κs = tt
+every-requires-2 : tie.Need-every-requires-2
+every-requires-2 c κs = tt
 
-plain-requires-6 : tie.Need-plain-requires-6
-plain-requires-6 c κs = tt
+every-requires-3 : tie.Need-every-requires-3
+every-requires-3 c κs = tt
 
 no-rule-requires : tie.Need-no-rule-requires
 no-rule-requires c κs = tt
@@ -51,39 +51,39 @@ returns-2 c = rw (c .before .match .keys2) (c .plain2 .ensures)
 
 returns-3 : tie.Need-returns-3
 unfolding ruleOf rules
-returns-3 c = rw (c .before .match .keys3) (c .ruled .ensures)
+returns-3 c = rw (c .before .match .keys3) (c .leaves .ensures)
 
 returns-4 : tie.Need-returns-4
 unfolding ruleOf rules
-returns-4 c = rw (c .before .match .keys4) (c .ruled2 .ensures)
+returns-4 c = rw (c .before .match .keys4) (c .reads .ensures)
 
 returns-5 : tie.Need-returns-5
 unfolding ruleOf rules
-returns-5 c = rw (c .before .match .keys5) (c .ruled3 .ensures)
+returns-5 c = rw (c .before .match .keys5) (c .writes .ensures)
 
 returns-6 : tie.Need-returns-6
 unfolding ruleOf rules
-returns-6 c = rw (c .before .match .keys6) (c .ruled4 .ensures)
+returns-6 c = rw (c .before .match .keys6) (c .reads2 .ensures)
 
 returns-7 : tie.Need-returns-7
 unfolding ruleOf rules
-returns-7 c = rw (c .before .match .keys7) (c .ruled5 .ensures)
+returns-7 c = rw (c .before .match .keys7) (c .writes2 .ensures)
 
 returns-8 : tie.Need-returns-8
 unfolding ruleOf rules
-returns-8 c = rw (c .before .match .keys8) (c .plain3 .ensures)
+returns-8 c = rw (c .before .match .keys8) (c .turns .ensures)
 
 returns-9 : tie.Need-returns-9
 unfolding ruleOf rules
-returns-9 c = rw (c .before .match .keys9) (c .plain4 .ensures)
+returns-9 c = rw (c .before .match .keys9) (c .every .ensures)
 
 returns-10 : tie.Need-returns-10
 unfolding ruleOf rules
-returns-10 c = rw (c .before .match .keys10) (c .plain5 .ensures)
+returns-10 c = rw (c .before .match .keys10) (c .every2 .ensures)
 
 returns-11 : tie.Need-returns-11
 unfolding ruleOf rules
-returns-11 c = rw (c .before .match .keys11) (c .plain6 .ensures)
+returns-11 c = rw (c .before .match .keys11) (c .every3 .ensures)
 
 returns-12 : tie.Need-returns-12
 returns-12 c = absurd (omega (arith, beyond (c .before .before .args .op) 0 11 (omega arith) (c .before .match .rest)))
@@ -94,15 +94,15 @@ rules-0-spec =
     (tie.spec
     plain-requires
     plain-requires-2
-    ruled-requires
-    ruled-requires-2
-    ruled-requires-3
-    ruled-requires-4
-    ruled-requires-5
-    plain-requires-3
-    plain-requires-4
-    plain-requires-5
-    plain-requires-6
+    leaves-requires
+    reads-requires
+    writes-requires
+    reads-requires-2
+    writes-requires-2
+    turns-requires
+    every-requires
+    every-requires-2
+    every-requires-3
     no-rule-requires
     returns
     returns-2

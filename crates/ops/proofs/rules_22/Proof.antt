@@ -5,8 +5,8 @@ use Rattle.ops.proofs.Beyond.{beyond}
 use Rattle.ops.proofs.rules_22.Statement.{statement}
 use Rattle.ops.proofs.rules_22.Tie as tie
 
-ruled-requires : tie.Need-ruled-requires
-ruled-requires c κs = tt
+leaves-requires : tie.Need-leaves-requires
+leaves-requires c κs = tt
 
 plain-requires : tie.Need-plain-requires
 plain-requires c κs = tt
@@ -14,36 +14,36 @@ plain-requires c κs = tt
 plain-requires-2 : tie.Need-plain-requires-2
 plain-requires-2 c κs = tt
 
-ruled-requires-2 : tie.Need-ruled-requires-2
-ruled-requires-2 c κs = tt
+leaves-requires-2 : tie.Need-leaves-requires-2
+leaves-requires-2 c κs = tt
 
-ruled-requires-3 : tie.Need-ruled-requires-3
-ruled-requires-3 c κs = tt
+leaves-requires-3 : tie.Need-leaves-requires-3
+leaves-requires-3 c κs = tt
 
-ruled-requires-4 : tie.Need-ruled-requires-4
-ruled-requires-4 c κs = tt
+leaves-requires-4 : tie.Need-leaves-requires-4
+leaves-requires-4 c κs = tt
 
 plain-requires-3 : tie.Need-plain-requires-3
 plain-requires-3 c κs = tt
 
-ruled-requires-5 : tie.Need-ruled-requires-5
-ruled-requires-5 c κs = tt
+leaves-requires-5 : tie.Need-leaves-requires-5
+leaves-requires-5 c κs = tt
 
-ruled-requires-6 : tie.Need-ruled-requires-6
-ruled-requires-6 c κs = tt
+answers-requires : tie.Need-answers-requires
+answers-requires c κs = tt
 
-ruled-requires-7 : tie.Need-ruled-requires-7
-ruled-requires-7 c κs = tt
+leaves-requires-6 : tie.Need-leaves-requires-6
+leaves-requires-6 c κs = tt
 
-ruled-requires-8 : tie.Need-ruled-requires-8
-ruled-requires-8 c κs = tt
+answers-requires-2 : tie.Need-answers-requires-2
+answers-requires-2 c κs = tt
 
 no-rule-requires : tie.Need-no-rule-requires
 no-rule-requires c κs = tt
 
 returns : tie.Need-returns
 unfolding ruleOf rules
-returns c = rw (c .before .match .keys1) (c .ruled .ensures)
+returns c = rw (c .before .match .keys1) (c .leaves .ensures)
 
 returns-2 : tie.Need-returns-2
 unfolding ruleOf rules
@@ -55,15 +55,15 @@ returns-3 c = rw (c .before .match .keys3) (c .plain2 .ensures)
 
 returns-4 : tie.Need-returns-4
 unfolding ruleOf rules
-returns-4 c = rw (c .before .match .keys4) (c .ruled2 .ensures)
+returns-4 c = rw (c .before .match .keys4) (c .leaves2 .ensures)
 
 returns-5 : tie.Need-returns-5
 unfolding ruleOf rules
-returns-5 c = rw (c .before .match .keys5) (c .ruled3 .ensures)
+returns-5 c = rw (c .before .match .keys5) (c .leaves3 .ensures)
 
 returns-6 : tie.Need-returns-6
 unfolding ruleOf rules
-returns-6 c = rw (c .before .match .keys6) (c .ruled4 .ensures)
+returns-6 c = rw (c .before .match .keys6) (c .leaves4 .ensures)
 
 returns-7 : tie.Need-returns-7
 unfolding ruleOf rules
@@ -71,19 +71,19 @@ returns-7 c = rw (c .before .match .keys7) (c .plain3 .ensures)
 
 returns-8 : tie.Need-returns-8
 unfolding ruleOf rules
-returns-8 c = rw (c .before .match .keys8) (c .ruled5 .ensures)
+returns-8 c = rw (c .before .match .keys8) (c .leaves5 .ensures)
 
 returns-9 : tie.Need-returns-9
 unfolding ruleOf rules
-returns-9 c = rw (c .before .match .keys9) (c .ruled6 .ensures)
+returns-9 c = rw (c .before .match .keys9) (c .answers .ensures)
 
 returns-10 : tie.Need-returns-10
 unfolding ruleOf rules
-returns-10 c = rw (c .before .match .keys10) (c .ruled7 .ensures)
+returns-10 c = rw (c .before .match .keys10) (c .leaves6 .ensures)
 
 returns-11 : tie.Need-returns-11
 unfolding ruleOf rules
-returns-11 c = rw (c .before .match .keys11) (c .ruled8 .ensures)
+returns-11 c = rw (c .before .match .keys11) (c .answers2 .ensures)
 
 returns-12 : tie.Need-returns-12
 returns-12 c = absurd (omega (arith, beyond (c .before .before .args .op) 22 11 (omega arith) (c .before .match .rest)))
@@ -92,17 +92,17 @@ pub rules-22-spec : {M : Type 1} → statement M
 rules-22-spec =
     tie.close
     (tie.spec
-    ruled-requires
+    leaves-requires
     plain-requires
     plain-requires-2
-    ruled-requires-2
-    ruled-requires-3
-    ruled-requires-4
+    leaves-requires-2
+    leaves-requires-3
+    leaves-requires-4
     plain-requires-3
-    ruled-requires-5
-    ruled-requires-6
-    ruled-requires-7
-    ruled-requires-8
+    leaves-requires-5
+    answers-requires
+    leaves-requires-6
+    answers-requires-2
     no-rule-requires
     returns
     returns-2

@@ -32,11 +32,11 @@ plain-requires-8 c κs = tt
 plain-requires-9 : tie.Need-plain-requires-9
 plain-requires-9 c κs = tt
 
-plain-requires-10 : tie.Need-plain-requires-10
-plain-requires-10 c κs = tt
+turns-requires : tie.Need-turns-requires
+turns-requires c κs = tt
 
-plain-requires-11 : tie.Need-plain-requires-11
-plain-requires-11 c κs = tt
+turns-requires-2 : tie.Need-turns-requires-2
+turns-requires-2 c κs = tt
 
 no-rule-requires : tie.Need-no-rule-requires
 no-rule-requires c κs = tt
@@ -79,11 +79,11 @@ returns-9 c = rw (c .before .match .keys9) (c .plain9 .ensures)
 
 returns-10 : tie.Need-returns-10
 unfolding ruleOf rules
-returns-10 c = rw (c .before .match .keys10) (c .plain10 .ensures)
+returns-10 c = rw (c .before .match .keys10) (c .turns .ensures)
 
 returns-11 : tie.Need-returns-11
 unfolding ruleOf rules
-returns-11 c = rw (c .before .match .keys11) (c .plain11 .ensures)
+returns-11 c = rw (c .before .match .keys11) (c .turns2 .ensures)
 
 returns-12 : tie.Need-returns-12
 returns-12 c = absurd (omega (arith, beyond (c .before .before .args .op) 33 11 (omega arith) (c .before .match .rest)))
@@ -101,8 +101,8 @@ rules-33-spec =
     plain-requires-7
     plain-requires-8
     plain-requires-9
-    plain-requires-10
-    plain-requires-11
+    turns-requires
+    turns-requires-2
     no-rule-requires
     returns
     returns-2

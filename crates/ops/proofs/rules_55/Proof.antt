@@ -7,6 +7,12 @@ use Rattle.ops.proofs.Beyond.{beyond}
 use Rattle.ops.proofs.rules_55.Statement.{statement}
 use Rattle.ops.proofs.rules_55.Tie as tie
 
+every-requires : tie.Need-every-requires
+every-requires c κs = tt
+
+every-requires-2 : tie.Need-every-requires-2
+every-requires-2 c κs = tt
+
 plain-requires : tie.Need-plain-requires
 plain-requires c κs = tt
 
@@ -34,58 +40,52 @@ plain-requires-8 c κs = tt
 plain-requires-9 : tie.Need-plain-requires-9
 plain-requires-9 c κs = tt
 
-plain-requires-10 : tie.Need-plain-requires-10
-plain-requires-10 c κs = tt
-
-plain-requires-11 : tie.Need-plain-requires-11
-plain-requires-11 c κs = tt
-
 no-rule-requires : tie.Need-no-rule-requires
 no-rule-requires c κs = tt
 
 returns : tie.Need-returns
 unfolding ruleOf rules
-returns c = rw (c .before .match .keys1) (c .plain .ensures)
+returns c = rw (c .before .match .keys1) (c .every .ensures)
 
 returns-2 : tie.Need-returns-2
 unfolding ruleOf rules
-returns-2 c = rw (c .before .match .keys2) (c .plain2 .ensures)
+returns-2 c = rw (c .before .match .keys2) (c .every2 .ensures)
 
 returns-3 : tie.Need-returns-3
 unfolding ruleOf rules
-returns-3 c = rw (c .before .match .keys3) (c .plain3 .ensures)
+returns-3 c = rw (c .before .match .keys3) (c .plain .ensures)
 
 returns-4 : tie.Need-returns-4
 unfolding ruleOf rules
-returns-4 c = rw (c .before .match .keys4) (c .plain4 .ensures)
+returns-4 c = rw (c .before .match .keys4) (c .plain2 .ensures)
 
 returns-5 : tie.Need-returns-5
 unfolding ruleOf rules
-returns-5 c = rw (c .before .match .keys5) (c .plain5 .ensures)
+returns-5 c = rw (c .before .match .keys5) (c .plain3 .ensures)
 
 returns-6 : tie.Need-returns-6
 unfolding ruleOf rules
-returns-6 c = rw (c .before .match .keys6) (c .plain6 .ensures)
+returns-6 c = rw (c .before .match .keys6) (c .plain4 .ensures)
 
 returns-7 : tie.Need-returns-7
 unfolding ruleOf rules
-returns-7 c = rw (c .before .match .keys7) (c .plain7 .ensures)
+returns-7 c = rw (c .before .match .keys7) (c .plain5 .ensures)
 
 returns-8 : tie.Need-returns-8
 unfolding ruleOf rules
-returns-8 c = rw (c .before .match .keys8) (c .plain8 .ensures)
+returns-8 c = rw (c .before .match .keys8) (c .plain6 .ensures)
 
 returns-9 : tie.Need-returns-9
 unfolding ruleOf rules
-returns-9 c = rw (c .before .match .keys9) (c .plain9 .ensures)
+returns-9 c = rw (c .before .match .keys9) (c .plain7 .ensures)
 
 returns-10 : tie.Need-returns-10
 unfolding ruleOf rules
-returns-10 c = rw (c .before .match .keys10) (c .plain10 .ensures)
+returns-10 c = rw (c .before .match .keys10) (c .plain8 .ensures)
 
 returns-11 : tie.Need-returns-11
 unfolding ruleOf rules
-returns-11 c = rw (c .before .match .keys11) (c .plain11 .ensures)
+returns-11 c = rw (c .before .match .keys11) (c .plain9 .ensures)
 
 returns-12 : tie.Need-returns-12
 unfolding ruleOf rules
@@ -95,6 +95,8 @@ pub rules-55-spec : {M : Type 1} → statement M
 rules-55-spec =
     tie.close
     (tie.spec
+    every-requires
+    every-requires-2
     plain-requires
     plain-requires-2
     plain-requires-3
@@ -104,8 +106,6 @@ rules-55-spec =
     plain-requires-7
     plain-requires-8
     plain-requires-9
-    plain-requires-10
-    plain-requires-11
     no-rule-requires
     returns
     returns-2
