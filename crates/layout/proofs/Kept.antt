@@ -10,17 +10,17 @@ use native.Mathlib.Omega.{arith}
 use borrow.Author.Tests.{ltb-true, ltb-false}
 use lib.Dec.{eqb, ltb}
 use lib.ListN.{length, getD, set, length-set}
-use lib.Seq.{getD-set-same, getD-set-other}
+use lib.Seq.{getD-set-other}
 use Rattle.cells.specs.declared.Cell.{Cell}
 use Rattle.ring.specs.declared.Queue.{Queue}
-use Rattle.words.specs.Layout.{putCell, copyN}
-use Rattle.words.proofs.Laws.{length-putCell, putCell-out, length-copyN, copyN-out}
+use Rattle.words.specs.Layout.{putCell}
+use Rattle.words.proofs.Laws.{length-putCell, putCell-out}
 use Rattle.ring.specs.Ring.{pushed}
 use Rattle.definition.specs.Module.{Module, moduleOf}
 use Rattle.goodform.specs.Good.{chunkNo, rowCells, wordsOf}
-use Rattle.layout.specs.Layout.{areaCells, areaOf, numbersAt, slotAt, inputAt, resultAt, rowsAt, rowAt, placeAt, localAt}
+use Rattle.layout.specs.Layout.{areaCells, areaOf, numbersAt, slotAt, rowsAt, rowAt}
 use Rattle.layout.specs.Indexed.{Indexed, NumbersHold, suspendsAt, chunkAt}
-use Rattle.layout.specs.Apart.{by-order, row-before, area-apart, areas-behind, numbers-first, slots-first, numbers-in, slots-in, inputs-begin, inputs-first, result-begins, result-next, rows-begin, row-begins, row-apart, row-in-area, row-in, rows-in-area, slots-apart, slots-behind, place-in-row, local-in-row}
+use Rattle.layout.specs.Apart.{by-order, row-before, area-apart, areas-behind, slots-first, numbers-in, slots-in, rows-begin, row-begins, row-apart, row-in-area, row-in, rows-in-area, slots-behind}
 
 pub record Kept (m : Module) (ws v : List ℕ) : Type 0 where
   pub long : length v ≡ length ws
@@ -140,15 +140,6 @@ queue-free m at len h =
       marks = λ n l a b. omega (arith, slots-in m n l);
     }
 
--- a slot but its last word
-pub slot-free : (m : Module) (k at len : ℕ) → k < m .slots → slotAt m k ≤ at → at + len ≤ slotAt m k + 15 → Free m at len
-slot-free m k at len h below above =
-    record {
-      numbers = λ n j l i a b. omega (arith, numbers-first m n k l);
-      fields = λ n i l j a b. omega (arith, slots-first m k n h, row-begins m n i);
-      marks = λ n l a b. by-order n k (λ o. omega (arith, slots-apart m n k o)) (λ e. omega (arith, ap (slotAt m) e)) (λ o. omega (arith, slots-apart m k n o));
-    }
-
 -- in the area of the chunk k, apart from the second word of each of its rows
 in-area : (m : Module) (k at len : ℕ) → k < length (m .chunks) → 16 * areaOf m k ≤ at → at + len ≤ 16 * (areaOf m k + areaCells (chunkNo m k))
     → ((i : ℕ) → i < length (chunkNo m k .code) → at ≤ rowAt m k i + 1 → rowAt m k i + 1 < at + len → ⊥) → Free m at len
@@ -186,31 +177,9 @@ row-free m k j at len h l below above side =
 pub reply-free : (m : Module) → Free m 0 15
 reply-free m = front-free m 0 15 (omega arith)
 
-pub slot-cell-free : (m : Module) (k : ℕ) → k < m .slots → Free m (slotAt m k) 15
-slot-cell-free m k h = slot-free m k (slotAt m k) 15 h (omega arith) (omega arith)
-
-module _ (m : Module) (n : ℕ) (h : n < length (m .chunks)) where
-  pub input-free : (k : ℕ) → k < length (chunkNo m n .params) → Free m (inputAt m n k) 15
-  input-free k l = facts-free m n (inputAt m n k) 15 h (inputs-begin m n k) (omega (arith, inputs-first m n k l, result-next m n))
-
-  pub result-free : Free m (resultAt m n) 15
-  result-free = facts-free m n (resultAt m n) 15 h (result-begins m n) (omega (arith, result-next m n))
-
-  pub place-free : (i p : ℕ) → i < length (chunkNo m n .code) → p < chunkNo m n .stack → Free m (placeAt (rowAt m n i) p) 15
-  place-free i p l o = row-free m n i _ 15 h l (omega arith) (omega (arith, place-in-row (chunkNo m n) (rowAt m n i) p o)) (inr (omega arith))
-
-  pub local-free : (i k : ℕ) → i < length (chunkNo m n .code) → k < chunkNo m n .locals → Free m (localAt (rowAt m n i) (chunkNo m n .stack) k) 15
-  local-free i k l o = row-free m n i _ 15 h l (omega arith) (omega (arith, local-in-row (chunkNo m n) (rowAt m n i) k o)) (inr (omega arith))
-
-  pub height-free : (i : ℕ) → i < length (chunkNo m n .code) → Free m (rowAt m n i) 1
-  height-free i l = row-free m n i (rowAt m n i) 1 h l (omega arith) (omega arith) (inl (omega arith))
-
 -- ---- the writes
 pub steady-put : (m : Module) (ws : List ℕ) (at : ℕ) (c : Cell) → Free m at 15 → Steady m ws (putCell ws at c)
 steady-put m ws at c f = steady-free m at 15 ws (putCell ws at c) f (length-putCell ws at c) (λ j o. putCell-out ws at c j o)
-
-pub steady-copy : (m : Module) (ws : List ℕ) (a b n : ℕ) → Free m b n → Steady m ws (copyN ws a b n)
-steady-copy m ws a b n f = steady-free m b n ws (copyN ws a b n) f (length-copyN ws a b n) (λ j o. copyN-out ws a b n j o)
 
 pub steady-set : (m : Module) (ws : List ℕ) (at x : ℕ) → Free m at 1 → Steady m ws (set ws at x)
 steady-set m ws at x f = steady-free m at 1 ws (set ws at x) f (length-set ws at x) other
@@ -222,35 +191,6 @@ steady-set m ws at x f = steady-free m at 1 ws (set ws at x) f (length-set ws at
 pub steady-push : (m : Module) (ws : List ℕ) (base : ℕ) (q : Queue) (x : ℕ) → wordsOf m ≤ base → Steady m ws (pushed ws base q x)
 unfolding pushed
 steady-push m ws base q x h = steady-set m ws _ x (queue-free m _ 1 (omega arith))
-
--- the last word of a slot, its mark kept
-pub steady-mark : (m : Module) (ws : List ℕ) (k x : ℕ) → k < m .slots → slotAt m k + 15 < length ws → x / 65536 ≡ getD ws (slotAt m k + 15) 0 / 65536
-    → Steady m ws (set ws (slotAt m k + 15) x)
-steady-mark m ws k x h room e =
-    record {
-      kept =
-          record {
-            long = length-set ws at x;
-            numbers = λ n j l i d. other (numbersAt n + j) (λ q. omega (arith, numbers-first m n k l));
-            fields = λ n i l j. other (rowAt m n i + 1) (λ q. omega (arith, slots-first m k n h, row-begins m n i));
-            marks =
-                λ n l. by-order n k
-                (λ o. ap (λ (w : ℕ). w / 65536) (other (slotAt m n + 15) (λ q. omega (arith, slots-apart m n k o))))
-                (λ q. rw q (ap (λ (w : ℕ). w / 65536) (getD-set-same ws at x 0 room) ∙ e))
-                (λ o. ap (λ (w : ℕ). w / 65536) (other (slotAt m n + 15) (λ q. omega (arith, slots-apart m k n o))));
-          };
-      suspends = λ n l. other (numbersAt n + 6) (λ q. omega (arith, numbers-first m n k l));
-    }
-  where
-    at : ℕ
-    at = slotAt m k + 15
-
-    other : (j : ℕ) → (j ≡ at → ⊥) → getD (set ws at x) j 0 ≡ getD ws j 0
-    other j d = getD-set-other ws at j x 0 d
-
--- as the code writes it: the mark, and new writes below it
-pub mark-same : (w u : ℕ) → u < 65536 → (w / 65536 * 65536 + u) / 65536 ≡ w / 65536
-mark-same w u h = omega arith
 
 -- a chunk is found to suspend
 pub kept-suspends : (m : Module) (ws : List ℕ) (c x : ℕ) → c < length (m .chunks) → Kept m ws (set ws (numbersAt c + 6) x)
@@ -272,22 +212,3 @@ kept-suspends m ws c x h =
 module _ (s ws : List ℕ) (x : Indexed s ws) where
   pub indexed-put : (at : ℕ) (c : Cell) → Free (moduleOf s) at 15 → Indexed s (putCell ws at c)
   indexed-put at c f = indexed-steady s ws (putCell ws at c) (steady-put (moduleOf s) ws at c f) x
-
-  pub indexed-copy : (a b n : ℕ) → Free (moduleOf s) b n → Indexed s (copyN ws a b n)
-  indexed-copy a b n f = indexed-steady s ws (copyN ws a b n) (steady-copy (moduleOf s) ws a b n f) x
-
-  pub indexed-set : (at w : ℕ) → Free (moduleOf s) at 1 → Indexed s (set ws at w)
-  indexed-set at w f = indexed-steady s ws (set ws at w) (steady-set (moduleOf s) ws at w f) x
-
-  pub indexed-push : (q : Queue) (w : ℕ) → Indexed s (pushed ws (wordsOf (moduleOf s)) q w)
-  indexed-push q w = indexed-steady s ws (pushed ws (wordsOf (moduleOf s)) q w) (steady-push (moduleOf s) ws (wordsOf (moduleOf s)) q w (omega arith)) x
-
-  pub indexed-mark : (k w : ℕ) → k < moduleOf s .slots → w / 65536 ≡ getD ws (slotAt (moduleOf s) k + 15) 0 / 65536
-      → Indexed s (set ws (slotAt (moduleOf s) k + 15) w)
-  indexed-mark k w h e =
-      indexed-steady s ws (set ws (slotAt (moduleOf s) k + 15) w)
-      (steady-mark (moduleOf s) ws k w h (omega (arith, slots-in (moduleOf s) k h, x .room)) e)
-      x
-
-  pub indexed-suspends : (c w : ℕ) → c < length (moduleOf s .chunks) → Indexed s (set ws (numbersAt c + 6) w)
-  indexed-suspends c w h = indexed-keep s ws (set ws (numbersAt c + 6) w) (kept-suspends (moduleOf s) ws c w h) x

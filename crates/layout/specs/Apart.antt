@@ -60,10 +60,6 @@ pub area-in : (m : Module) (n : ℕ) → n < length (m .chunks) → 16 * (areaOf
 area-in m n h = omega (arith, area-apart m n (length (m .chunks)) h (omega arith), area-last m)
 
 -- ---- before the areas
--- the numbers of a chunk, and the slots
-pub numbers-apart : (n k : ℕ) → n < k → numbersAt n + 16 ≤ numbersAt k
-numbers-apart n k l = omega arith
-
 pub numbers-first : (m : Module) (n k : ℕ) → n < length (m .chunks) → numbersAt n + 16 ≤ slotAt m k
 unfolding slotAt
 numbers-first m n k h = omega arith
@@ -96,10 +92,6 @@ pub reply-in : (m : Module) → 64 ≤ wordsOf m
 reply-in m = omega (arith, areas-behind m (length (m .chunks)), area-last m)
 
 -- ---- in an area
-pub inputs-apart : (m : Module) (n j k : ℕ) → j < k → inputAt m n j + 16 ≤ inputAt m n k
-unfolding inputAt
-inputs-apart m n j k l = omega arith
-
 pub inputs-first : (m : Module) (n k : ℕ) → k < length (chunkNo m n .params) → inputAt m n k + 16 ≤ resultAt m n
 unfolding inputAt resultAt
 inputs-first m n k h = omega arith
@@ -155,14 +147,8 @@ pub row-other : (m : Module) (n i j : ℕ) → (i ≡ j → ⊥)
 row-other m n i j d = by-order i j (λ l. inl (row-apart m n i j l)) (λ e. absurd (d e)) (λ l. inr (row-apart m n j i l))
 
 -- ---- in a row: numbers, stack places, locals
-pub places-apart : (row p q : ℕ) → p < q → placeAt row p + 16 ≤ placeAt row q
-places-apart row p q l = omega arith
-
 pub places-first : (row stack p i : ℕ) → p < stack → placeAt row p + 16 ≤ localAt row stack i
 places-first row stack p i l = omega arith
-
-pub locals-apart : (row stack i j : ℕ) → i < j → localAt row stack i + 16 ≤ localAt row stack j
-locals-apart row stack i j l = omega arith
 
 pub place-in-row : (c : Chunk) (row p : ℕ) → p < c .stack → placeAt row p + 16 ≤ row + 16 * rowCells c
 place-in-row c row p l = omega arith

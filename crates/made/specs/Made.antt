@@ -10,14 +10,13 @@ use borrow.Author.Tests.{lt-ltb}
 use Rattle.masks.specs.declared.Mask.{Mask}
 use Rattle.masks.specs.Names.{WORD, UNKNOWN}
 use Rattle.flows.specs.declared.Origin.the-variants.{Local}
-use Rattle.flows.specs.Flow.{negated}
 use Rattle.cells.specs.declared.Cell.{Cell}
 use Rattle.cells.specs.Cell.{made}
 use Rattle.description.specs.declared.Instr.{Instr}
-use Rattle.ops.specs.declared.Makes.the-variants.{Local as NamedLocal, Negation, OneKind}
+use Rattle.ops.specs.declared.Makes.the-variants.{Local as NamedLocal}
 use Rattle.ops.specs.declared.Others.{Others}
 use Rattle.ops.specs.declared.Others.the-variants.{Unknowns, Words, Checked, Copies, Tested, Status}
-use Rattle.definition.specs.Outputs.{Visit, noCell, arg, instr, shared, bitsMask, negation, withPredicate, withOrigin, originAt, tested, firstOutput, secondOutput, restOutput, madeFrom, outputs}
+use Rattle.definition.specs.Outputs.{Visit, noCell, instr, withOrigin, originAt, tested, firstOutput, secondOutput, restOutput, madeFrom, outputs}
 
 -- a native that gives two values gives a word second
 unfoldable pub statusMask : ℕ → Mask
@@ -74,13 +73,3 @@ pub first-local : (v : Visit) → instr v .a < 65535
     → firstOutput v NamedLocal ≡ withOrigin (getD (v .locals) (instr v .a) noCell) (Local (instr v .a % 65536))
 unfolding firstOutput originAt
 first-local v h = let l : instr v .a < 65536 = omega arith in rw (lt-ltb _ _ h, mod-eq-of-lt l)
-
-pub first-negation : (v : Visit)
-    → firstOutput v Negation
-    ≡ withPredicate (made (negation (arg v 0 .mask)) (v .code .float)) (negated (arg v 0 .flow .predicate))
-unfolding firstOutput
-first-negation v = refl
-
-pub first-one-kind : (v : Visit) → firstOutput v OneKind ≡ made (bitsMask (arg v 0 .mask) (shared v)) (v .code .float)
-unfolding firstOutput
-first-one-kind v = refl

@@ -2,12 +2,11 @@
 use Prim.Native.Nat.{ℕ}
 use mathlib.Core.Path.{_≡_, refl}
 use mathlib.Core.Bool.{Bool, true}
-use mathlib.Core.Option.{none, some}
-use Rattle.masks.specs.Names.{UNKNOWN}
+use mathlib.Core.Option.{some}
 use Rattle.widths.specs.declared.Shape.{Shape}
 use Rattle.widths.specs.Shape.{shapeMask, declaredWidth}
 use Rattle.cells.specs.declared.Cell.{Cell}
-use Rattle.cells.specs.Cell.{made, ownedWidth}
+use Rattle.cells.specs.Cell.{ownedWidth}
 use Rattle.ops.specs.declared.Makes.the-variants.{Constant, Reply, Part, NativeValue}
 use Rattle.definition.specs.Module.{Site, Native}
 use Rattle.definition.specs.Data.{fresh}
@@ -38,8 +37,3 @@ pub first-native : (v : Visit) (n : Native) → at (v .code .natives) (instr v .
     → firstOutput v NativeValue ≡ nativeBy (n .shape) (n .snapshot)
 unfolding firstOutput nativeCell nativeBy
 first-native v n h = rw h
-
--- a native past the table
-pub first-no-native : (v : Visit) → at (v .code .natives) (instr v .a) ≡ none → firstOutput v NativeValue ≡ made UNKNOWN (v .code .float)
-unfolding firstOutput nativeCell
-first-no-native v h = rw h

@@ -5,9 +5,8 @@ use Prim.Native.Nat.{ℕ}
 use native.Mathlib.Omega.{arith}
 use lib.ListN.{length, getD}
 use Rattle.extents.specs.declared.Extent.{Extent}
-use Rattle.cells.specs.declared.Cell.{Cell}
 use Rattle.le.specs.Wrote.{Wrote}
-use Rattle.definition.specs.Report.{bodyBytes, bodiesBytes, cellBytes}
+use Rattle.definition.specs.Report.{bodyBytes, bodiesBytes}
 
 -- the same write, its bytes said otherwise
 pub said : {l l′ : List ℕ} {at r n : ℕ} {a b : List ℕ} → Wrote l at n a l′ r → a ≡ b → Wrote l at n b l′ r
@@ -23,7 +22,3 @@ four (e0 ∷ []) d h = absurd (omega arith)
 four (e0 ∷ e1 ∷ []) d h = absurd (omega arith)
 four (e0 ∷ e1 ∷ e2 ∷ []) d h = absurd (omega arith)
 four (e0 ∷ e1 ∷ e2 ∷ e3 ∷ e4 ∷ es) d h = absurd (omega arith)
-
--- a cell that was written is 49 bytes
-pub cell-size : {l l′ : List ℕ} {at r : ℕ} (c : Cell) → Wrote l at 49 (cellBytes c) l′ r → length (cellBytes c) ≡ 49
-cell-size c w = w .size

@@ -171,8 +171,3 @@ ready-pop w base q r l =
 pub push-below : (w : List ℕ) (base : ℕ) (q : Queue) (x j : ℕ) → j < base → getD (pushed w base q x) j 0 ≡ getD w j 0
 unfolding pushed
 push-below w base q x j l = getD-set-other w _ j x 0 (λ e. omega arith)
-
--- and so does every word but the slot of the entry
-pub push-other : (w : List ℕ) (base : ℕ) (q : Queue) (x j : ℕ) → (base + wrapOf (q .head + q .count) (capOf w base) ≡ j → ⊥) → getD (pushed w base q x) j 0 ≡ getD w j 0
-unfolding pushed
-push-other w base q x j l = getD-set-other w _ j x 0 (λ e. l (sym e))

@@ -1,7 +1,6 @@
 -- What leaves is the definition's state after the visit, along the way; and how it meets its target is what the machine puts there.
 use Prim.Native.Nat.{ℕ, zero, suc, _+_, _*_, _-_, _≤_}
 use mathlib.Core.Path.{_≡_, refl, sym, ap, ap₂, _∙_}
-use mathlib.Core.Logic.{_⊎_, inl, inr}
 use mathlib.Core.Bool.{Bool, true, false, cond, _&&_}
 use mathlib.Core.Option.{Option, none, some}
 use mathlib.Core.List.{List, [], _∷_, _++_, map}
@@ -23,8 +22,8 @@ use Rattle.definition.specs.Outputs.{Visit, Setting, instr, noCell, output}
 use Rattle.definition.specs.Ways.{isFrom, narrowStack, narrowed, forget, setLocals, outputList, kept, resetFirst}
 use Rattle.layout.specs.declared.Chunk.{Chunk}
 use Rattle.words.specs.Layout.{cellAt}
-use Rattle.words.specs.Rows.{cellsAt, Outside}
-use Rattle.words.proofs.RowLaws.{cellsAt-length, cellsAt-outside}
+use Rattle.words.specs.Rows.{cellsAt}
+use Rattle.words.proofs.RowLaws.{cellsAt-length}
 use Rattle.keep.specs.Arrive.{nowhere, keptCell}
 use Rattle.keep.proofs.Laws.{sameCells-sound, map-append}
 use Rattle.rows.specs.Leave.{keptLocals, keptStack, narrowedLocal, setOnWay, leavesKept, leavesReset, leavesAs, stateBy, stateIn, metState, metHow}
@@ -33,25 +32,6 @@ use Rattle.rows.specs.declared.joining.SetLocal.{SetLocal}
 use Rattle.rows.specs.declared.joining.Way.{Way}
 use Rattle.rows.specs.declared.joining.Met.{Met}
 use Rattle.rows.specs.declared.joining.Met.the-variants.{Same, Changed, Unequal}
-
--- ---- the state of a row that is not written stays, where its height is no more than the places that it has
-state-same : (v w : List ℕ) (at stack locals n : ℕ) → ((h : ℕ) → n ≡ suc h → cellsAt v (at + 96) h ≡ cellsAt w (at + 96) h) → cellsAt v (at + 96 + 16 * stack) locals ≡ cellsAt w (at + 96 + 16 * stack) locals → stateBy v at stack locals n ≡ stateBy w at stack locals n
-unfolding stateBy
-state-same v w at stack locals zero p q = refl
-state-same v w at stack locals (suc h) p q = λ i. some (record { stack = p h refl i; locals = q i })
-
-pub state-outside : {a b : ℕ} {w v : List ℕ} → Outside a b w v → (at stack locals : ℕ) → getD w at 0 ≤ stack + 1 → (at + (96 + 16 * (stack + locals)) ≤ a) ⊎ (b ≤ at) → stateIn v at stack locals ≡ stateIn w at stack locals
-unfolding stateIn
-state-outside {a} {b} {w} {v} o at stack locals l (inl f) =
-    ap (stateBy v at stack locals) (o .word at (inl (omega arith)))
-    ∙ state-same v w at stack locals (getD w at 0)
-    (λ h e. cellsAt-outside o (at + 96) h (inl (omega arith)))
-    (cellsAt-outside o (at + 96 + 16 * stack) locals (inl (omega arith)))
-state-outside {a} {b} {w} {v} o at stack locals l (inr f) =
-    ap (stateBy v at stack locals) (o .word at (inr f))
-    ∙ state-same v w at stack locals (getD w at 0)
-    (λ h e. cellsAt-outside o (at + 96) h (inr (omega arith)))
-    (cellsAt-outside o (at + 96 + 16 * stack) locals (inr (omega arith)))
 
 -- ---- a target that is the same after, or of another height, keeps its state
 sameStates-sound : (x y : State) → sameStates x y ≡ true → x ≡ y
@@ -69,16 +49,6 @@ same-stays (some old) x e = go (eqb (length (old .stack)) (length (x .stack))) (
     go true true p e = ap some (sym (sameStates-sound old (joinStates old x) p))
     go true false p e = let z : _≡_ {A = ℕ} 0 1 = cc in absurd (omega arith)
     go false t p e = refl
-
-pub unequal-stays : (o : Option State) (x : State) → metHow o x ≡ Unequal → metState o x ≡ o
-unfolding metHow metState
-unequal-stays none x e = let z : _≡_ {A = ℕ} 0 1 = cc in absurd (omega arith)
-unequal-stays (some old) x e = go (eqb (length (old .stack)) (length (x .stack))) (sameStates old (joinStates old x)) e
-  where
-    go : (s t : Bool) → cond s (cond t Same Changed) Unequal ≡ Unequal → cond s (some (joinStates old x)) (some old) ≡ some old
-    go true true e = let z : _≡_ {A = ℕ} 0 1 = cc in absurd (omega arith)
-    go true false e = let z : _≡_ {A = ℕ} 0 1 = cc in absurd (omega arith)
-    go false t e = refl
 
 -- ---- how it meets its target is what the machine puts there
 unfoldable pub metPut : ℕ → Work State → ℕ → Option State → Met → Res (Work State)

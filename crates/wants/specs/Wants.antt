@@ -13,7 +13,7 @@ use Rattle.ops.specs.declared.Data.{Data}
 use Rattle.definition.specs.declared.Ask.the-variants.{First, Both, Below}
 use Rattle.definition.specs.declared.Want.{Want}
 use Rattle.definition.specs.Outputs.{Visit, arg, instr, shared}
-use Rattle.definition.specs.Wants.{wants, nothing, never, every, same, yieldedMask, stored, isEntry, wantOf, checksBy, checks}
+use Rattle.definition.specs.Wants.{wants, nothing, never, every, same, yieldedMask, stored, isEntry, wantOf}
 
 -- the composite that a field read wants; a boxed read is never proven
 unfoldable pub partBy : Instr → Mask → Want
@@ -71,10 +71,3 @@ want-by-case v NotProven = refl
 
 pub want-by : (v : Visit) → wantOf v (v .rule .asks) ≡ wantBy (v .rule .asks) (v .rule .slots) (instr v) (shared v) (endsKinds v) (declaredMask v (v .rule .asks)) (isEntry v)
 want-by v = want-by-case v (v .rule .asks)
-
--- all that is asked of a visit, from what the code finds is asked
-pub checks-by : (v : Visit) (w : Want)
-    → w ≡ wantBy (v .rule .asks) (v .rule .slots) (instr v) (shared v) (endsKinds v) (declaredMask v (v .rule .asks)) (isEntry v)
-    → checks v ≡ checksBy v w (w .ask)
-unfolding checks
-checks-by v w h = rw (h, want-by)

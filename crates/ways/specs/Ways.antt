@@ -36,17 +36,6 @@ module _ (v : Visit) where
   unfolding leavingBy
   way-by x to tos n h = rw h
 
-  pub leaving-nowhere : (i : ℕ) → targets Nowhere ≡ waysOf (v .rule .exit) i (instr v .a) (arg v 0 .mask) → leaving v i ≡ []
-  unfolding leavingBy
-  leaving-nowhere i h = leaving-by i Nowhere h
-
-  pub leaving-one : (i a : ℕ) (n : Narrows)
-      → targets (One a) ≡ waysOf (v .rule .exit) i (instr v .a) (arg v 0 .mask)
-      → receiver n ≡ narrowing (v .rule .exit) (arg v 0 .flow .predicate) (instr v .a) a
-      → leaving v i ≡ onWay a (along (after v) (receiver n)) []
-  unfolding leavingBy
-  leaving-one i a n h k = leaving-by i (One a) h ∙ way-by (after v) a [] n k
-
   pub leaving-two : (i a b : ℕ) (n m : Narrows)
       → targets (Two a b) ≡ waysOf (v .rule .exit) i (instr v .a) (arg v 0 .mask)
       → receiver n ≡ narrowing (v .rule .exit) (arg v 0 .flow .predicate) (instr v .a) a

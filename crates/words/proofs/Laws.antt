@@ -9,7 +9,7 @@ use lib.Dec.{eqb, ltb}
 use lib.ListN.{length, getD, set, length-set}
 use lib.Seq.{getD-set-same, getD-set-other}
 use borrow.Author.Count.{below-more}
-use borrow.Author.Tests.{eqb-true, eq-eqb, ltb-true, ltb-false, lt-ltb}
+use borrow.Author.Tests.{eqb-true, eq-eqb, ltb-true, ltb-false}
 use Rattle.masks.proofs.Both.{both, neither}
 use Rattle.masks.specs.Mask.{of}
 use Rattle.widths.specs.declared.Width.{Width}
@@ -135,15 +135,6 @@ decode-encode c f =
     at4 : ℕ → Extent
     at4 k = getD (c .flow .bodies) k absent
 
--- equal words, equal cells
-pub encode-injective : (c d : Cell) → Fit c → Fit d → encode c ≡ encode d → c ≡ d
-encode-injective c d f g e =
-    sym (decode-encode c f) ∙ ap (λ (l : List ℕ). decode (λ (k : ℕ). getD l k 0)) e ∙ decode-encode d g
-
-pub length-encode : (c : Cell) → length (encode c) ≡ 16
-unfolding encode
-length-encode c = refl
-
 -- ---- words that a loop stores
 pub length-putN : (w : List ℕ) (at : ℕ) (vs : List ℕ) (n : ℕ) → length (putN w at vs n) ≡ length w
 unfolding putN
@@ -198,14 +189,6 @@ putCell-holds w at c h = record { word = λ k l. putN-in w at (encode c) 15 h k 
 pub cellAt-put : (w : List ℕ) (at : ℕ) (c : Cell) → at + 15 ≤ length w → Fit c → cellAt (putCell w at c) at ≡ c
 cellAt-put w at c h f = holds-cell (putCell w at c) at c f (putCell-holds w at c h)
 
-pub cellAt-put-other : (w : List ℕ) (at : ℕ) (c : Cell) (b : ℕ) → (b + 15 ≤ at) ⊎ (at + 15 ≤ b) → cellAt (putCell w at c) b ≡ cellAt w b
-cellAt-put-other w at c b (inl h) = cellAt-same (putCell w at c) w b b (λ k l. putCell-out w at c (b + k) (inl (omega arith)))
-cellAt-put-other w at c b (inr h) = cellAt-same (putCell w at c) w b b (λ k l. putCell-out w at c (b + k) (inr (omega arith)))
-
-pub holds-put-other : (w : List ℕ) (at : ℕ) (c : Cell) (b : ℕ) (d : Cell) → (b + 15 ≤ at) ⊎ (at + 15 ≤ b) → Holds w b d → Holds (putCell w at c) b d
-holds-put-other w at c b d (inl h) r = record { word = λ k l. putCell-out w at c (b + k) (inl (omega arith)) ∙ r .word k l }
-holds-put-other w at c b d (inr h) r = record { word = λ k l. putCell-out w at c (b + k) (inr (omega arith)) ∙ r .word k l }
-
 -- ---- the comparison is true exactly where the words agree
 pub sames-true : (w : List ℕ) (a b n : ℕ) → sameN w a b n ≡ true → (k : ℕ) → k < n → getD w (a + k) 0 ≡ getD w (b + k) 0
 unfolding sameN
@@ -222,11 +205,6 @@ sames-whole w a b (suc n) h =
 
 pub same-cells : (w : List ℕ) (a b : ℕ) → sameN w a b 16 ≡ true → cellAt w a ≡ cellAt w b
 same-cells w a b e = cellAt-same w w a b (λ k l. sames-true w a b 16 e k (omega arith))
-
--- of words that hold cells it says whether the cells are equal
-pub same-holds : (w : List ℕ) (a b : ℕ) (c d : Cell) → Holds w a c → Holds w b d → c ≡ d → sameN w a b 15 ≡ true
-same-holds w a b c d p q e =
-    sames-whole w a b 15 (λ k l. p .word k l ∙ ap (λ (x : Cell). getD (encode x) k 0) e ∙ sym (q .word k l))
 
 -- ---- a copy
 pub length-copyN : (w : List ℕ) (a b n : ℕ) → length (copyN w a b n) ≡ length w
@@ -253,26 +231,6 @@ copyN-in w a b (suc k) h i l =
 pub cellAt-copy : (w : List ℕ) (a b : ℕ) → b + 15 ≤ length w → cellAt (copyN w a b 15) b ≡ cellAt w a
 cellAt-copy w a b h = cellAt-same (copyN w a b 15) w b a (copyN-in w a b 15 h)
 
-pub cellAt-copy-other : (w : List ℕ) (a b c : ℕ) → (c + 15 ≤ b) ⊎ (b + 15 ≤ c) → cellAt (copyN w a b 15) c ≡ cellAt w c
-cellAt-copy-other w a b c (inl h) = cellAt-same (copyN w a b 15) w c c (λ k l. copyN-out w a b 15 (c + k) (inl (omega arith)))
-cellAt-copy-other w a b c (inr h) = cellAt-same (copyN w a b 15) w c c (λ k l. copyN-out w a b 15 (c + k) (inr (omega arith)))
-
-pub holds-copy : (w : List ℕ) (a b : ℕ) (c : Cell) → b + 15 ≤ length w → Holds w a c → Holds (copyN w a b 15) b c
-holds-copy w a b c h r = record { word = λ k l. copyN-in w a b 15 h k l ∙ r .word k l }
-
--- ---- words of nought
-abbrev pub zeroCell : Cell
-zeroCell = record { mask = of 0; width = Wide; flow = noFlow }
-
-pub decode-zero : decode (λ (k : ℕ). 0) ≡ zeroCell
-unfolding decode noFlow
-decode-zero = refl
-
-pub cellAt-zero : (w : List ℕ) (at : ℕ) → ((k : ℕ) → k < 15 → getD w (at + k) 0 ≡ 0) → cellAt w at ≡ zeroCell
-unfolding cellAt
-cellAt-zero w at h =
-    decode-eq _ (λ (k : ℕ). 0) (λ k l. ap (λ (n : ℕ). getD w n 0) (off-is at k) ∙ h k l) ∙ decode-zero
-
 -- ---- plain cells
 pub plain-says : (w : List ℕ) (at : ℕ) → plainAt w at ≡ true → (cellAt w at .flow .origin ≡ Nowhere) × (cellAt w at .flow .predicate ≡ Untested)
 unfolding cellAt decode
@@ -281,18 +239,6 @@ plain-says w at e =
     let o : getD w at 0 / 65536 / 64 % 2 ≡ 0 = omega arith in
     let p : getD w at 0 / 65536 / 16 % 4 ≡ 0 = omega arith in
     (ap (λ (n : ℕ). originOf n (getD w (at + 14) 0 % 65536)) o, ap (λ (n : ℕ). predicateOf n (getD w (at + 14) 0 / 65536)) p)
-
-first-word : (w : List ℕ) (at : ℕ) (c : Cell) → Holds w at c → getD w at 0 ≡ c .mask .bits + 65536 * (twoOf (c .width) .0 + 4 * ownedBits (c .flow .owned) + 16 * predicateWords (c .flow .predicate) .0 + 64 * originWords (c .flow .origin) .0)
-unfolding encode
-first-word w at c h = let z : at ≡ at + 0 = omega arith in ap (λ (n : ℕ). getD w n 0) z ∙ h .word 0 (omega arith)
-
--- of words that hold a cell the test says whether it is plain
-pub plain-holds : (w : List ℕ) (at : ℕ) (c : Cell) → Fit c → Holds w at c → c .flow .origin ≡ Nowhere → c .flow .predicate ≡ Untested → plainAt w at ≡ true
-plain-holds w at c f h o p =
-    let q = first-word w at c h in
-    let qo : originWords (c .flow .origin) .0 ≡ 0 = ap (λ (x : Origin). originWords x .0) o in
-    let qp : predicateWords (c .flow .predicate) .0 ≡ 0 = ap (λ (x : Predicate). predicateWords x .0) p in
-    lt-ltb (getD w at 0) 1048576 (omega (arith, f .mask, width-small (c .width), owned-small (c .flow .owned)))
 
 -- ---- cells without flow
 zero-word : (n : ℕ) → not (eqb n 0) ≡ false → n ≡ 0

@@ -7,8 +7,8 @@ use native.Mathlib.Omega.{arith}
 use lib.ListN.{length, getD, set, take, drop, length-set}
 use lib.Seq.{getD-set-other, take-at, drop-at}
 use Rattle.cells.specs.declared.Cell.{Cell}
-use Rattle.words.specs.Layout.{cellAt, putCell, copyN, Fit}
-use Rattle.words.proofs.Laws.{cellAt-same, cellAt-put, cellAt-copy, length-putCell, putCell-out, length-copyN, copyN-out}
+use Rattle.words.specs.Layout.{cellAt, putCell, copyN}
+use Rattle.words.proofs.Laws.{cellAt-same, length-putCell, putCell-out, length-copyN, copyN-out}
 use Rattle.words.specs.Rows.{cellsAt, Outside}
 
 -- ---- how many, which, and two parts
@@ -113,13 +113,3 @@ cellsAt-set {a} {b} {w} {v} p at (suc n) (suc k) c h l m e =
     let z : at + 16 + 16 * k ≡ at + 16 * suc k = omega arith in
     ap₂ _∷_ (cellAt-outside p at (inl (omega arith)))
     (cellsAt-set p (at + 16) n k c (omega arith) (omega arith) (omega arith) (ap (cellAt v) z ∙ e))
-
-pub cellsAt-put : (w : List ℕ) (at n k : ℕ) (c : Cell) → k < n → at + 16 * n ≤ length w → Fit c → cellsAt (putCell w (at + 16 * k) c) at n ≡ set (cellsAt w at n) k c
-cellsAt-put w at n k c h l f =
-    cellsAt-set (outside-put w (at + 16 * k) c) at n k c h (omega arith) (omega arith)
-    (cellAt-put w (at + 16 * k) c (omega arith) f)
-
-pub cellsAt-copy : (w : List ℕ) (from at n k : ℕ) → k < n → at + 16 * n ≤ length w → cellsAt (copyN w from (at + 16 * k) 15) at n ≡ set (cellsAt w at n) k (cellAt w from)
-cellsAt-copy w from at n k h l =
-    cellsAt-set (outside-copy w from (at + 16 * k) 15) at n k (cellAt w from) h (omega arith) (omega arith)
-    (cellAt-copy w from (at + 16 * k) (omega arith))
