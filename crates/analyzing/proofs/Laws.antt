@@ -5,11 +5,12 @@ use mathlib.Core.Path.{_≡_, sym, ap, _∙_}
 use mathlib.Core.Bool.{true, false}
 use mathlib.Core.List.{List}
 use lib.Dec.{ltb}
-use lib.ListN.{length}
+use lib.ListN.{length, getD}
 use borrow.Author.Tests.{lt-ltb, le-ltb}
 use Rattle.answers.specs.declared.Refusal.{Refusal}
 use Rattle.answers.specs.declared.Answer.{Answer}
 use Rattle.answers.specs.declared.Answer.the-variants.{Accepted, Refused}
+use Rattle.answers.specs.Answers.{numbers}
 use Rattle.le.specs.Wrote.{put}
 use Rattle.le.proofs.Laws.{put-start}
 use Rattle.definition.specs.Form.{nowhere}
@@ -32,25 +33,34 @@ use Rattle.measuring.specs.Reporting.{Faultless, reportIn}
 use Rattle.faultless.proofs.Faultless.{run-faultless}
 use Rattle.analyzing.specs.Told.{Told}
 
+-- ---- the length in an answer
+pub short-refused : (f : Refusal) → getD (numbers (Refused f)) 4 0 < 4294967296
+unfolding numbers
+short-refused f = omega arith
+
+short-accepted : (n steps : ℕ) → n < 4294967296 → getD (numbers (Accepted n steps)) 4 0 < 4294967296
+unfolding numbers
+short-accepted n steps h = h
+
 -- ---- the report, too long for its buffer or written
 pub told-long : (r : Report) (steps n : ℕ) (buf : List ℕ) → n ≡ length (reportBytes r) → length buf < n
     → Told (reported r steps) buf (Refused (nowhere 6 steps)) buf
-unfolding Told outcomeOf delivered turnedBack
-told-long r steps n buf e h ws =
+unfolding outcomeOf delivered turnedBack
+told-long r steps n buf e h =
     let t : ltb (length buf) (length (reportBytes r)) ≡ true = lt-ltb (length buf) (length (reportBytes r)) (omega arith) in
-    (rw t, rw t)
+    record { same = λ ws. (rw t, rw t); short = short-refused (nowhere 6 steps) }
 
-pub told-written : (r : Report) (steps n : ℕ) (buf buf′ : List ℕ) → n ≡ length (reportBytes r) → n ≤ length buf → buf′ ≡ put buf 0 (reportBytes r)
+pub told-written : (r : Report) (steps n : ℕ) (buf buf′ : List ℕ) → n ≡ length (reportBytes r) → n < 4294967296 → n ≤ length buf → buf′ ≡ put buf 0 (reportBytes r)
     → Told (reported r steps) buf (Accepted n steps) buf′
-unfolding Told outcomeOf delivered
-told-written r steps n buf buf′ e h w ws =
+unfolding outcomeOf delivered
+told-written r steps n buf buf′ e k h w =
     let t : ltb (length buf) (length (reportBytes r)) ≡ false = le-ltb (length buf) (length (reportBytes r)) (omega arith) in
-    (rw (t, e), rw t (w ∙ put-start buf (reportBytes r) (omega arith)))
+    record { same = λ ws. (rw (t, e), rw t (w ∙ put-start buf (reportBytes r) (omega arith))); short = short-accepted n steps k }
 
 -- ---- the run
 pub told-turned : (f : Refusal) (d : Decided) (buf : List ℕ) → d ≡ turned f → Told d buf (Refused f) buf
-unfolding Told outcomeOf turnedBack
-told-turned f d buf e ws = (rw e, rw e)
+unfolding outcomeOf turnedBack
+told-turned f d buf e = record { same = λ ws. (rw e, rw e); short = short-refused f }
 
 -- turned back before the rounds
 pub told-early : (s ws v buf : List ℕ) (cap limit : ℕ) (x : Started) (f : Refusal) → StartedAs s ws v x → x ≡ NotStarted f

@@ -1,10 +1,14 @@
 -- What is told of a decision: the answer, and what the report buffer holds after it. The workspace is the caller's.
-use Prim.Native.Nat.{ℕ}
+use Prim.Native.Nat.{ℕ, _<_}
 use mathlib.Core.Path.{_≡_}
 use mathlib.Core.List.{List}
+use lib.ListN.{getD}
 use Rattle.answers.specs.declared.Answer.{Answer}
+use Rattle.answers.specs.Answers.{numbers}
 use Rattle.definition.specs.Call.{Decided, outcomeOf}
 
--- r and buf′ are the definition's, whatever the workspace
-unfoldable pub Told : Decided → List ℕ → Answer → List ℕ → Type 0
-Told d buf r buf′ = (ws : List ℕ) → (r ≡ outcomeOf d ws buf .answer) × (buf′ ≡ outcomeOf d ws buf .report)
+pub record Told (d : Decided) (buf : List ℕ) (r : Answer) (buf′ : List ℕ) : Type 0 where
+  -- r and buf′ are the definition's, whatever the workspace
+  pub same : (ws : List ℕ) → (r ≡ outcomeOf d ws buf .answer) × (buf′ ≡ outcomeOf d ws buf .report)
+  -- the report's length is a number of 32 bits
+  pub short : getD (numbers r) 4 0 < 4294967296

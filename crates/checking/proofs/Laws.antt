@@ -5,7 +5,7 @@ use mathlib.Core.Path.{_≡_, refl, sym, ap, _∙_}
 use mathlib.Core.Bool.{Bool, true, false, cond}
 use mathlib.Core.List.{List}
 use lib.Dec.{leb}
-use lib.ListN.{length, replicate}
+use lib.ListN.{length, getD, replicate}
 use Rattle.answers.specs.declared.Refusal.{Refusal}
 use Rattle.answers.specs.declared.Answer.{Answer}
 use Rattle.answers.specs.declared.Answer.the-variants.{Refused}
@@ -26,6 +26,7 @@ use Rattle.room.specs.Room.{roomBy, withRoom, roomOf}
 use Rattle.room.specs.Decides.{onRoom, room-decides, room-fine}
 use Rattle.clearing.specs.Clearing.{cleared, cleared-all}
 use Rattle.analyzing.specs.Told.{Told}
+use Rattle.analyzing.proofs.Laws.{short-refused}
 use Rattle.checking.specs.Checked.{Checked}
 
 -- ---- the whole call
@@ -52,14 +53,15 @@ module _ (s ws buf : List ℕ) (limit : ℕ) where
   room-number r e = few (length ws) (formOf s) r (λ q h. form-numbers s q h .1) e
 
   -- demand 3 follows from the rest
-  checked : (r : Answer) (buf′ ws′ : List ℕ) → r ≡ call s ws buf limit .answer → buf′ ≡ call s ws buf limit .report → ws′ ≡ call s ws buf limit .workspace
+  checked : (r : Answer) (buf′ ws′ : List ℕ) → r ≡ call s ws buf limit .answer → buf′ ≡ call s ws buf limit .report → ws′ ≡ call s ws buf limit .workspace → getD (numbers r) 4 0 < 4294967296
       → Checked s ws buf limit r buf′ ws′
-  checked r buf′ ws′ a b w =
+  checked r buf′ ws′ a b w n =
       record {
         answer = a;
         said = ap numbers a;
         report = b;
         workspace = w;
+        short = n;
         consistent = λ long steps e. rw b (demand-3 s ws buf limit long steps (sym a ∙ e));
       }
 
@@ -68,16 +70,17 @@ module _ (s ws buf : List ℕ) (limit : ℕ) where
   checked-refused f r h e =
       let q : roomOf s (length ws) ≡ Malformed r = sym h ∙ e in
       let d : decide s (length ws) limit ≡ turned r = room-decides s (length ws) limit ∙ ap (onRoom s (length ws) limit) q in
-      checked (Refused r) buf ws (rw d) (rw d) (rw d (sym (left-as-was (r .number) ws (room-number r q))))
+      checked (Refused r) buf ws (rw d) (rw d) (rw d (sym (left-as-was (r .number) ws (room-number r q)))) (short-refused r)
 
   pub checked-ran : (f : Form) (w : ℕ) (v ws′ buf′ : List ℕ) (r : Answer) → f ≡ roomOf s (length ws) → f ≡ Fine w → length v ≡ length ws
       → Told (decided (moduleOf s) (roomIn s v) limit) buf r buf′ → (u : List ℕ) → length u ≡ length ws → ws′ ≡ cleared u (length ws) → Checked s ws buf limit r buf′ ws′
-  unfolding Told call onRoom
+  unfolding call onRoom
   checked-ran f w v ws′ buf′ r h e l t u k c =
       let q : roomOf s (length ws) ≡ Fine w = sym h ∙ e in
       let g = good-room s ws f w h e .0 in
       let z : roomIn s v ≡ length ws - w = omega (arith, g .words) in
       let d : decide s (length ws) limit ≡ decided (moduleOf s) (roomIn s v) limit =
       room-decides s (length ws) limit ∙ ap (onRoom s (length ws) limit) q ∙ ap (λ (n : ℕ). decided (moduleOf s) n limit) (sym z) in
-      checked r buf′ ws′ (rw d (t ws .0)) (rw d (t ws .1))
+      checked r buf′ ws′ (rw d (t .same ws .0)) (rw d (t .same ws .1))
       (rw d (c ∙ ap (cleared u) (sym k) ∙ cleared-all u ∙ ap (λ (n : ℕ). replicate n 0) k ∙ sym (decided-zero (moduleOf s) (roomIn s v) limit ws buf)))
+      (t .short)

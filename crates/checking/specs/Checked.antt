@@ -1,8 +1,8 @@
 -- What a call of `check` comes to: answer, report buffer and workspace are the definition's for all arguments, and an accepted report meets demand 3.
-use Prim.Native.Nat.{ℕ}
+use Prim.Native.Nat.{ℕ, _<_}
 use mathlib.Core.Path.{_≡_}
 use mathlib.Core.List.{List}
-use lib.ListN.{take}
+use lib.ListN.{take, getD}
 use Rattle.answers.specs.declared.Answer.{Answer}
 use Rattle.answers.specs.declared.Answer.the-variants.{Accepted}
 use Rattle.answers.specs.Answers.{numbers}
@@ -18,5 +18,7 @@ pub record Checked (s ws buf : List ℕ) (limit : ℕ) (r : Answer) (buf′ ws�
   pub said : numbers r ≡ numbers (call s ws buf limit .answer)
   pub report : buf′ ≡ call s ws buf limit .report
   pub workspace : ws′ ≡ call s ws buf limit .workspace
+  -- the report's length, the last of the numbers, is one of 32 bits
+  pub short : getD (numbers r) 4 0 < 4294967296
   -- demand 3, of the bytes that were written
   pub consistent : (long steps : ℕ) → r ≡ Accepted long steps → Consistent (moduleOf s) (readReport (take long buf′))

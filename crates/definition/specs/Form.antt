@@ -239,12 +239,10 @@ orStop n r t = cond (eqb n 0) (Go t) (Stop r)
 unfoldable pub inField : ℕ → ℕ → ℕ → Refusal
 inField n c i = cond (ltb n 3) (nowhere n 0) (record { number = n; chunk = c; instruction = i; steps = 0 })
 
-unfoldable pub headerStep : List ℕ → ℕ → Scan → Step
-headerStep s p t =
-    let h = headerOf s p in
-    let n = headerFault (eqb (t .place) 0) (lenAt s p) h in
-    orStop n (nowhere n 0)
-    (record {
+-- past a field, the scan: its tag, and what it counts
+abbrev pub pastHeader : Header → Scan
+pastHeader h =
+    record {
       place = 1;
       chunks = h .chunks;
       signatures = h .signatures;
@@ -255,15 +253,17 @@ headerStep s p t =
       instrs = 0;
       count = 0;
       cells = 4 + h .slots;
-    })
+    }
 
-unfoldable pub chunkStep : List ℕ → ℕ → Scan → Step
-chunkStep s p t =
-    let h = chunkOf s p in
-    let signed = ltb (t .seen) (t .signatures) in
-    let n = chunkFault s p (ltb 0 (t .place) && ltb (t .place) 5 && ltb (t .seen) (t .chunks)) (lenAt s p) signed h in
-    orStop n (inField n (t .seen) 65535)
-    (record {
+unfoldable pub headerStep : List ℕ → ℕ → Scan → Step
+headerStep s p t =
+    let h = headerOf s p in
+    let n = headerFault (eqb (t .place) 0) (lenAt s p) h in
+    orStop n (nowhere n 0) (pastHeader h)
+
+abbrev pub pastChunk : ChunkHead → ℕ → Scan → Scan
+pastChunk h params t =
+    record {
       place = 2;
       chunks = t .chunks;
       signatures = t .signatures;
@@ -273,14 +273,19 @@ chunkStep s p t =
       stack = h .stack;
       instrs = 0;
       count = t .count;
-      cells = t .cells + signedParams s p signed + 2;
-    })
+      cells = t .cells + params + 2;
+    }
 
-unfoldable pub instrStep : List ℕ → ℕ → Scan → Step
-instrStep s p t =
-    let n = instrFault (ltb 1 (t .place) && ltb (t .place) 5) (lenAt s p) (instrOf s p) t in
-    orStop n (inField n (t .seen - 1) (t .instrs))
-    (record {
+unfoldable pub chunkStep : List ℕ → ℕ → Scan → Step
+chunkStep s p t =
+    let h = chunkOf s p in
+    let signed = ltb (t .seen) (t .signatures) in
+    let n = chunkFault s p (ltb 0 (t .place) && ltb (t .place) 5 && ltb (t .seen) (t .chunks)) (lenAt s p) signed h in
+    orStop n (inField n (t .seen) 65535) (pastChunk h (signedParams s p signed) t)
+
+abbrev pub pastInstr : Scan → Scan
+pastInstr t =
+    record {
       place = 3;
       chunks = t .chunks;
       signatures = t .signatures;
@@ -291,7 +296,12 @@ instrStep s p t =
       instrs = t .instrs + 1;
       count = t .count;
       cells = t .cells + t .locals + t .stack + 6;
-    })
+    }
+
+unfoldable pub instrStep : List ℕ → ℕ → Scan → Step
+instrStep s p t =
+    let n = instrFault (ltb 1 (t .place) && ltb (t .place) 5) (lenAt s p) (instrOf s p) t in
+    orStop n (inField n (t .seen - 1) (t .instrs)) (pastInstr t)
 
 abbrev pub placed : ℕ → ℕ → Scan → Scan
 placed tag count t =

@@ -1,5 +1,5 @@
 -- What each case of an answer comes to.
-use Prim.Native.Nat.{ℕ, _+_, _%_, _<_}
+use Prim.Native.Nat.{ℕ, _+_, _<_}
 use native.Mathlib.Omega.{arith}
 use mathlib.Core.Path.{_≡_, refl, sym, _∙_, ap}
 use mathlib.Core.List.{List, [], _∷_}
@@ -21,22 +21,21 @@ use Rattle.goodform.proofs.Theorem.{good-form}
 use Rattle.find.specs.declared.Part.{Part}
 use Rattle.numbers.proofs.Calls.{refused-numbers}
 use Rattle.checking.specs.Checked.{Checked}
-use Rattle.facts_c.specs.Called.{inWords, CallOf, formNumber, leastWords, WordsOf, PartOf}
+use Rattle.facts_c.specs.Called.{CallOf, formNumber, leastWords, WordsOf, PartOf}
 
 pub in-accepted : (a : Answer) (length steps : ℕ) → a ≡ Accepted length steps
-    → 0 ∷ (65535 ∷ (65535 ∷ (steps ∷ (length % 4294967296 ∷ [])))) ≡ inWords (numbers a)
-unfolding numbers inWords
+    → 0 ∷ (65535 ∷ (65535 ∷ (steps ∷ (length ∷ [])))) ≡ numbers a
+unfolding numbers
 in-accepted a length steps e = rw e
 
-pub in-refused : (a : Answer) (r : Refusal) → a ≡ Turned r → r .number ∷ (r .chunk ∷ (r .instruction ∷ (r .steps ∷ (0 ∷ [])))) ≡ inWords (numbers a)
-unfolding numbers inWords
+pub in-refused : (a : Answer) (r : Refusal) → a ≡ Turned r → r .number ∷ (r .chunk ∷ (r .instruction ∷ (r .steps ∷ (0 ∷ [])))) ≡ numbers a
+unfolding numbers
 in-refused a r e = rw e
 
--- the first is as it was
-pub first-word : (a : Answer) → getD (inWords (numbers a)) 0 0 ≡ getD (numbers a) 0 0
-unfolding numbers inWords
-first-word (Accepted long steps) = refl
-first-word (Turned r) = refl
+-- a length of 32 bits
+pub short-length : (a : Answer) (length steps : ℕ) → a ≡ Accepted length steps → getD (numbers a) 4 0 < 4294967296 → length < 4294967296
+unfolding numbers
+short-length a length steps e h = rw e at h
 
 -- the call with its answer in numbers
 module _ (s ws buf : List ℕ) (limit : ℕ) where
@@ -46,13 +45,13 @@ module _ (s ws buf : List ℕ) (limit : ℕ) where
   accepted-by (Accepted long steps) buf′ ws′ k z = (long, steps, sym (k .answer), k .consistent long steps refl)
   accepted-by (Turned r) buf′ ws′ k z = absurd (omega (arith, refused-numbers s ws buf limit r (sym (k .answer)) .0))
 
-  pub called : (a : Answer) (r : ℕ) (out buf′ ws′ : List ℕ) → Checked s ws buf limit a buf′ ws′ → out ≡ inWords (numbers a) → r ≡ getD (numbers a) 0 0
+  pub called : (a : Answer) (r : ℕ) (out buf′ ws′ : List ℕ) → Checked s ws buf limit a buf′ ws′ → out ≡ numbers a → r ≡ getD (numbers a) 0 0
       → CallOf s ws buf limit r out buf′ ws′
   called a r out buf′ ws′ k e n =
       rw e
       (record {
-        answer = ap (λ (x : Answer). inWords (numbers x)) (k .answer);
-        number = n ∙ sym (first-word a);
+        answer = k .said;
+        number = n;
         report = k .report;
         workspace = k .workspace;
         accepted = λ z. accepted-by a buf′ ws′ k (sym n ∙ z);

@@ -1,8 +1,8 @@
 -- What a program in another language gets: a number, and an array of its own filled with numbers.
-use Prim.Native.Nat.{ℕ, _+_, _%_}
+use Prim.Native.Nat.{ℕ, _+_}
 use mathlib.Core.Path.{_≡_}
 use mathlib.Core.Bool.{cond}
-use mathlib.Core.List.{List, [], _∷_, _++_}
+use mathlib.Core.List.{List, [], _∷_}
 use lib.Dec.{eqb}
 use lib.ListN.{take, getD}
 use Rattle.answers.specs.declared.Answer.the-variants.{Accepted}
@@ -15,14 +15,10 @@ use Rattle.reading.specs.Read.{readReport}
 use Rattle.consistent.specs.Consistent.{Consistent}
 use Rattle.find.specs.declared.Part.{Part}
 
--- an answer's five numbers in words of 32 bits: of the length the low 32 bits, all of it below 4 GiB
-unfoldable pub inWords : List ℕ → List ℕ
-inWords l = take 4 l ++ (getD l 4 0 % 4294967296 ∷ [])
-
 -- s the description, ws and buf workspace and report buffer as they were; r what is returned, out, buf′ and ws′ what the call left
 pub record CallOf (s ws buf : List ℕ) (limit r : ℕ) (out buf′ ws′ : List ℕ) : Type 0 where
   -- number, chunk, instruction, steps and length; the number is returned, too
-  pub answer : out ≡ inWords (numbers (call s ws buf limit .answer))
+  pub answer : out ≡ numbers (call s ws buf limit .answer)
   pub number : r ≡ getD out 0 0
   pub report : buf′ ≡ call s ws buf limit .report
   pub workspace : ws′ ≡ call s ws buf limit .workspace

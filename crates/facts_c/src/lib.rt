@@ -4,25 +4,21 @@ use definition::Form;
 use facts::check;
 use find::part_of;
 use form::check_form;
+ghost use Prim.Native.Nat.{_<_};
 ghost use mathlib.Core.Path.{_≡_};
 ghost use lib.ListN.{getD};
 ghost use Rattle.answers.specs.Answers.{numbers};
 ghost use Rattle.definition.specs.Form.{formOf};
 ghost use Rattle.find.specs.Find.{found};
-ghost use Rattle.facts_c.specs.Called.{inWords, CallOf, WordsOf, PartOf};
+ghost use Rattle.facts_c.specs.Called.{CallOf, WordsOf, PartOf};
 
 // An answer as five words.
 fn in_words(answer: Answer) -> [u32; 5]
-    ensures { λ r. ⌜ r ≡ inWords (numbers answer) ⌝ }
+    requires { ⌜ getD (numbers answer) 4 0 < 4294967296 ⌝ }
+    ensures { λ r. ⌜ r ≡ numbers answer ⌝ }
 {
     match answer {
-        Answer::Accepted { length, steps } => [
-            0,
-            65535,
-            65535,
-            steps,
-            (length % 4294967296) as u32,
-        ],
+        Answer::Accepted { length, steps } => [0, 65535, 65535, steps, length as u32],
         Answer::Refused(r) => [
             r.number as u32,
             r.chunk as u32,

@@ -10,15 +10,13 @@ use borrow.Author.Tests.{lt-ltb, ltb-true, ltb-false, eqb-true, ne-eqb}
 use lib.ListN.{length}
 use lib.Dec.{eqb, ltb, leb}
 use Rattle.answers.specs.declared.Refusal.{Refusal}
-use Rattle.description.specs.declared.Header.{Header}
-use Rattle.description.specs.declared.ChunkHead.{ChunkHead}
 use Rattle.description.specs.Fields.{tagAt, lenAt, nextAt, headerOf, chunkOf, instrOf}
 use Rattle.description.proofs.Walk.{next-after}
 use Rattle.definition.specs.declared.Scan.{Scan}
 use Rattle.definition.specs.declared.Step.{Step}
 use Rattle.definition.specs.declared.Step.the-variants.{Go, Stop}
 use Rattle.definition.specs.Module.{signedParams}
-use Rattle.definition.specs.Form.{nowhere, headerFault, chunkFault, instrFault, siteFault, tableFault, orStop, inField, headerStep, chunkStep, instrStep, placed, siteStep, soFar, tableStep, fieldStep}
+use Rattle.definition.specs.Form.{nowhere, headerFault, chunkFault, instrFault, siteFault, tableFault, orStop, inField, pastHeader, headerStep, pastChunk, chunkStep, pastInstr, instrStep, placed, siteStep, soFar, tableStep, fieldStep}
 use Rattle.late.specs.Counted.{counted}
 use Rattle.codesteps.specs.Bounds.{Bounded, so-far-le}
 
@@ -46,51 +44,6 @@ widen t n m b h =
       cells = omega arith;
     }
 
-abbrev headerNext : Header → Scan
-headerNext h =
-    record {
-      place = 1;
-      chunks = h .chunks;
-      signatures = h .signatures;
-      layout = h .layout;
-      seen = 0;
-      locals = 0;
-      stack = 0;
-      instrs = 0;
-      count = 0;
-      cells = 4 + h .slots;
-    }
-
-abbrev chunkNext : ChunkHead → ℕ → Scan → Scan
-chunkNext h params t =
-    record {
-      place = 2;
-      chunks = t .chunks;
-      signatures = t .signatures;
-      layout = t .layout;
-      seen = t .seen + 1;
-      locals = h .locals;
-      stack = h .stack;
-      instrs = 0;
-      count = t .count;
-      cells = t .cells + params + 2;
-    }
-
-abbrev instrNext : Scan → Scan
-instrNext t =
-    record {
-      place = 3;
-      chunks = t .chunks;
-      signatures = t .signatures;
-      layout = t .layout;
-      seen = t .seen;
-      locals = t .locals;
-      stack = t .stack;
-      instrs = t .instrs + 1;
-      count = t .count;
-      cells = t .cells + t .locals + t .stack + 6;
-    }
-
 module _ (s : List ℕ) (p : ℕ) (t : Scan) (b : Bounded t p) where
   stop-within : (k : ℕ) (r : Refusal) (u : Scan) → (k ≡ 0 → After s p t u) → Within s p t (orStop k r u)
   stop-within k r u f = go (eqb k 0) (λ e. f (eqb-true k 0 e))
@@ -103,7 +56,7 @@ module _ (s : List ℕ) (p : ℕ) (t : Scan) (b : Bounded t p) where
   cond-within true a c f g = f refl
   cond-within false a c f g = g refl
 
-  header-after : tagAt s p ≡ 1 → eqb (t .place) 0 ≡ true → HeaderFine (lenAt s p) (headerOf s p) → After s p t (headerNext (headerOf s p))
+  header-after : tagAt s p ≡ 1 → eqb (t .place) 0 ≡ true → HeaderFine (lenAt s p) (headerOf s p) → After s p t (pastHeader (headerOf s p))
   unfolding counted nextAt
   header-after tag on f =
       let new : t .place ≡ 0 = eqb-true (t .place) 0 on in
@@ -130,11 +83,11 @@ module _ (s : List ℕ) (p : ℕ) (t : Scan) (b : Bounded t p) where
   unfolding headerStep
   header-within tag =
       let k : ℕ = headerFault (eqb (t .place) 0) (lenAt s p) (headerOf s p) in
-      stop-within k (nowhere k 0) (headerNext (headerOf s p))
+      stop-within k (nowhere k 0) (pastHeader (headerOf s p))
       (λ e. let f = header-fine (eqb (t .place) 0) (lenAt s p) (headerOf s p) e in header-after tag (f .0) (f .1))
 
   chunk-after : (d signed : Bool) → tagAt s p ≡ 2 → (d && ltb (t .seen) (t .chunks)) ≡ true
-      → ChunkFine (lenAt s p) (signedParams s p signed) (chunkOf s p) → After s p t (chunkNext (chunkOf s p) (signedParams s p signed) t)
+      → ChunkFine (lenAt s p) (signedParams s p signed) (chunkOf s p) → After s p t (pastChunk (chunkOf s p) (signedParams s p signed) t)
   unfolding counted nextAt
   chunk-after d signed tag on f =
       let less : t .seen < t .chunks = ltb-true (t .seen) (t .chunks) (both d (ltb (t .seen) (t .chunks)) on .1) in
@@ -162,7 +115,7 @@ module _ (s : List ℕ) (p : ℕ) (t : Scan) (b : Bounded t p) where
       let d : Bool = ltb 0 (t .place) && ltb (t .place) 5 in
       let due : Bool = d && ltb (t .seen) (t .chunks) in
       let k : ℕ = chunkFault s p due (lenAt s p) signed (chunkOf s p) in
-      stop-within k (inField k (t .seen) 65535) (chunkNext (chunkOf s p) (signedParams s p signed) t)
+      stop-within k (inField k (t .seen) 65535) (pastChunk (chunkOf s p) (signedParams s p signed) t)
       (λ e. let f = chunk-fine s p due (lenAt s p) signed (chunkOf s p) e in chunk-after d signed tag (f .0) (f .1))
 
   instr-within : tagAt s p ≡ 3 → Within s p t (instrStep s p t)
@@ -170,7 +123,7 @@ module _ (s : List ℕ) (p : ℕ) (t : Scan) (b : Bounded t p) where
   instr-within tag =
       let due : Bool = ltb 1 (t .place) && ltb (t .place) 5 in
       let k : ℕ = instrFault due (lenAt s p) (instrOf s p) t in
-      stop-within k (inField k (t .seen - 1) (t .instrs)) (instrNext t)
+      stop-within k (inField k (t .seen - 1) (t .instrs)) (pastInstr t)
       (λ e.
       let f = instr-fine due (lenAt s p) (instrOf s p) t e .1 in
       record {

@@ -5,16 +5,19 @@ use form::check_form;
 use le::u8_at;
 use le::u16_at;
 use le::u32_at;
-use std::num::wrapping_add_u32;
+use tally::Tally;
+use tally::begun;
+use tally::counted;
+use tally::ended;
+use tally::note;
+use tally::say;
 ghost use mathlib.Core.Path.{_≡_};
 ghost use lib.ListN.{length};
 
-// How far the replay is: the bytes of the base, the entries that agreed and those that didn't, and whether more may follow.
-struct Tally {
+// How far the replay is: the bytes of the base, and the entries so far.
+struct Replay {
     base: usize,
-    agreed: u32,
-    differ: u32,
-    more: bool,
+    tally: Tally,
 }
 
 // Puts a byte behind the first n, where there is room.
@@ -76,74 +79,43 @@ fn made(head: &[u8], base: &[u8], size: usize, part: &[u8], work: &mut [u8]) -> 
     append(work, n, base, on, size)
 }
 
-fn counted(t: Tally, base: usize, fine: bool) -> Tally {
-    if fine {
-        return Tally {
-            base,
-            agreed: wrapping_add_u32(t.agreed, 1),
-            differ: t.differ,
-            more: true,
-        };
-    }
-    Tally {
-        base,
-        agreed: t.agreed,
-        differ: wrapping_add_u32(t.differ, 1),
-        more: true,
-    }
-}
-
-fn ended(t: Tally) -> Tally {
-    Tally {
-        base: t.base,
-        agreed: t.agreed,
-        differ: t.differ,
-        more: false,
-    }
-}
-
-fn say(t: Tally) {
-    io::print_decimal(1, t.agreed as u64);
-    io::write_all(1, b" agreed, ");
-    io::print_decimal(1, t.differ as u64);
-    io::write_all(1, b" differ\n");
-}
-
-// Says which entry differs, counted from 1.
-fn note(t: Tally, fine: bool) {
-    if fine {
-        return;
-    }
-    io::write_all(1, b"differs: entry ");
-    io::print_decimal(1, (wrapping_add_u32(t.agreed, t.differ) as u64) + 1);
-    io::write_all(1, b"\n");
-}
-
 // One entry more, its head already read: the bytes put in, the answer.
-fn entry(head: &[u8], base: &mut [u8], part: &mut [u8], work: &mut [u8], t: Tally) -> Tally {
+fn entry(head: &[u8], base: &mut [u8], part: &mut [u8], work: &mut [u8], r: Replay) -> Replay {
     let mut stored = [0u8; 13];
     let n = u16_at(head, 9) as usize;
+    let t = r.tally;
     if part.len() < n {
-        return ended(t);
+        return Replay {
+            base: r.base,
+            tally: ended(t),
+        };
     }
     io::read_full(0, &mut part[..n]);
     io::read_full(0, &mut stored);
-    let size = made(head, base, t.base, part, work);
+    let size = made(head, base, r.base, part, work);
     let fine = looked(work, size, &stored);
     note(t, fine);
+    let tally = counted(t, fine);
     if u8_at(head, 0) == 1 {
         let m = append(base, 0, work, 0, size);
-        return counted(t, m, fine);
+        return Replay { base: m, tally };
     }
-    counted(t, t.base, fine)
+    Replay {
+        base: r.base,
+        tally,
+    }
 }
 
-fn turn(base: &mut [u8], part: &mut [u8], work: &mut [u8], t: Tally) -> Tally {
+fn turn(base: &mut [u8], part: &mut [u8], work: &mut [u8], r: Replay) -> Replay {
     let mut head = [0u8; 15];
     if io::read_full(0, &mut head) < 15 {
-        return ended(t);
+        let t = r.tally;
+        return Replay {
+            base: r.base,
+            tally: ended(t),
+        };
     }
-    entry(&head, base, part, work, t)
+    entry(&head, base, part, work, r)
 }
 
 // Room for the longest description of the list.
@@ -158,15 +130,13 @@ fn main() {
     let mut part = [0u8; 16384];
     let mut work = space();
     let mut left: u32 = 1000000;
-    let mut t = Tally {
+    let mut r = Replay {
         base: 0,
-        agreed: 0,
-        differ: 0,
-        more: true,
+        tally: begun(),
     };
     while 0 < left {
-        t = turn(&mut base, &mut part, &mut work, t);
-        left = if t.more { left - 1 } else { 0 };
+        r = turn(&mut base, &mut part, &mut work, r);
+        left = if r.tally.more { left - 1 } else { 0 };
     }
-    say(t);
+    say(r.tally);
 }

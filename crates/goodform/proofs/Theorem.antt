@@ -13,11 +13,11 @@ use Rattle.definition.specs.declared.Scan.{Scan}
 use Rattle.definition.specs.declared.Form.the-variants.{Fine}
 use Rattle.definition.specs.Module.{Module, Chunk, lineOf, signedParams, codeAfter, chunkFrom, chunksFrom, moduleFrom, moduleOf}
 use Rattle.definition.specs.Leaves.{noLine}
-use Rattle.definition.specs.Form.{formOf}
+use Rattle.definition.specs.Form.{pastChunk, formOf}
 use Rattle.goodform.specs.Good.{noChunk, chunkNo, lineNo, wordsOf, LineGood, ChunkGood, Good}
 use Rattle.goodform.proofs.Each.{All, all-at, all-map, Each, each-at, row-length}
 use Rattle.goodform.proofs.Faults.{Fits, tableLen, tableMost}
-use Rattle.goodform.proofs.Walk.{afterChunk, AtChunk, Walk, end, chunk, instr, other, Starts, starts}
+use Rattle.goodform.proofs.Walk.{paramsThen, AtChunk, Walk, end, chunk, instr, other, Starts, starts}
 use Rattle.goodform.proofs.Front.{code-chunk, code-instr, code-other, chunks-chunk, chunks-other, tag-other}
 use Rattle.goodform.proofs.Sums.{paramsOfAll, lastLook, walk-look, walk-chunks, walk-cells, walk-small, walk-code, no-code}
 use Rattle.goodform.proofs.Tables.{Table, table-rows}
@@ -58,7 +58,7 @@ module _ (s : List ℕ) (w : ℕ) (m : Module) where
       rw (code-instr s p ps (a .tag)) (line-good m c s p (t .locals) (t .signatures) e g (a .fine .fit) (l .0 (a .tag)), lines-good k g (l .1) c e)
   lines-good (other {p} {ps} j n a k) g l c e = rw (code-other s p ps (omega (arith, a .tag, a .past))) (lines-good k g (l .1) c e)
 
-  chunk-good : {p : ℕ} {ps : List ℕ} {t : Scan} → AtChunk s p t → Walk s w (nextAt s p) ps (afterChunk s p t) → m .signatures ≡ t .signatures → LateIn s m ps
+  chunk-good : {p : ℕ} {ps : List ℕ} {t : Scan} → AtChunk s p t → Walk s w (nextAt s p) ps (pastChunk (chunkOf s p) (paramsThen s p t) t) → m .signatures ≡ t .signatures → LateIn s m ps
       → ChunkGood m (t .seen) (chunkFrom s (t .seen) p (ltb (t .seen) (t .signatures)) (codeAfter s ps))
   unfolding chunkFrom lineNo signedParams
   chunk-good {p} {ps} {t} a k g l =

@@ -16,57 +16,11 @@ use Rattle.definition.specs.declared.Step.the-variants.{Go, Stop}
 use Rattle.definition.specs.declared.Form.{Form}
 use Rattle.definition.specs.declared.Form.the-variants.{Fine, Refused}
 use Rattle.definition.specs.Module.{signedParams}
-use Rattle.definition.specs.Form.{nowhere, headerFault, chunkFault, instrFault, siteFault, tableFault, orStop, inField, headerStep, chunkStep, instrStep, siteStep, soFar, placed, tableStep, fieldStep, finished, onStep, scanFrom, unscanned, formOf}
+use Rattle.definition.specs.Form.{nowhere, headerFault, chunkFault, instrFault, siteFault, tableFault, orStop, inField, pastHeader, headerStep, pastChunk, chunkStep, pastInstr, instrStep, siteStep, soFar, placed, tableStep, fieldStep, finished, onStep, scanFrom, unscanned, formOf}
 use Rattle.goodform.proofs.Faults.{HeaderFine, header-fine, ChunkFine, chunk-fine, InstrFine, instr-fine, site-due, tableLen, tableMost, table-fine}
-
--- ---- the scan after a field
-abbrev pub afterHeader : List ℕ → Scan
-afterHeader s =
-    record {
-      place = 1;
-      chunks = headerOf s 0 .chunks;
-      signatures = headerOf s 0 .signatures;
-      layout = headerOf s 0 .layout;
-      seen = 0;
-      locals = 0;
-      stack = 0;
-      instrs = 0;
-      count = 0;
-      cells = 4 + headerOf s 0 .slots;
-    }
 
 abbrev pub paramsThen : List ℕ → ℕ → Scan → ℕ
 paramsThen s p t = signedParams s p (ltb (t .seen) (t .signatures))
-
-abbrev pub afterChunk : List ℕ → ℕ → Scan → Scan
-afterChunk s p t =
-    record {
-      place = 2;
-      chunks = t .chunks;
-      signatures = t .signatures;
-      layout = t .layout;
-      seen = t .seen + 1;
-      locals = chunkOf s p .locals;
-      stack = chunkOf s p .stack;
-      instrs = 0;
-      count = t .count;
-      cells = t .cells + paramsThen s p t + 2;
-    }
-
-abbrev pub afterInstr : Scan → Scan
-afterInstr t =
-    record {
-      place = 3;
-      chunks = t .chunks;
-      signatures = t .signatures;
-      layout = t .layout;
-      seen = t .seen;
-      locals = t .locals;
-      stack = t .stack;
-      instrs = t .instrs + 1;
-      count = t .count;
-      cells = t .cells + t .locals + t .stack + 6;
-    }
 
 -- ---- what the scan saw at a field
 pub record AtChunk (s : List ℕ) (p : ℕ) (t : Scan) : Type 0 where
@@ -100,8 +54,8 @@ pub record AtOther (s : List ℕ) (p k c : ℕ) (t : Scan) : Type 0 where
 -- from the field at p on; w in the end
 pub data Walk (s : List ℕ) (w : ℕ) : ℕ → List ℕ → Scan → Type 0 where
   end : {p : ℕ} {t : Scan} → finished s t ≡ Fine w → Walk s w p [] t
-  chunk : {p : ℕ} {ps : List ℕ} {t : Scan} → AtChunk s p t → Walk s w (nextAt s p) ps (afterChunk s p t) → Walk s w p (p ∷ ps) t
-  instr : {p : ℕ} {ps : List ℕ} {t : Scan} → AtInstr s p t → Walk s w (nextAt s p) ps (afterInstr t) → Walk s w p (p ∷ ps) t
+  chunk : {p : ℕ} {ps : List ℕ} {t : Scan} → AtChunk s p t → Walk s w (nextAt s p) ps (pastChunk (chunkOf s p) (paramsThen s p t) t) → Walk s w p (p ∷ ps) t
+  instr : {p : ℕ} {ps : List ℕ} {t : Scan} → AtInstr s p t → Walk s w (nextAt s p) ps (pastInstr t) → Walk s w p (p ∷ ps) t
   other : {p : ℕ} {ps : List ℕ} {t : Scan} (k c : ℕ) → AtOther s p k c t → Walk s w (nextAt s p) ps (placed k c t) → Walk s w p (p ∷ ps) t
 
 -- ---- from the scan to the walk
@@ -133,23 +87,23 @@ module _ (s : List ℕ) (w p : ℕ) (ps : List ℕ) (t : Scan) (l : 0 < t .place
       let a = ltb 0 (t .place) && ltb (t .place) 5 in
       let due = a && ltb (t .seen) (t .chunks) in
       let n = chunkFault s p due (lenAt s p) signed (chunkOf s p) in
-      went n (inField n (t .seen) 65535) (afterChunk s p t) (λ u. scanFrom s ps u) w h λ e k.
+      went n (inField n (t .seen) 65535) (pastChunk (chunkOf s p) (paramsThen s p t) t) (λ u. scanFrom s ps u) w h λ e k.
       let (d, fine) = chunk-fine s p due (lenAt s p) signed (chunkOf s p) e in
       let (x, y) = both a _ d in
       let early = ltb-true (t .place) 5 (both (ltb 0 (t .place)) _ x .1) in
       chunk (record { tag = tag; fits = fits; past = l; early = early; due = ltb-true (t .seen) (t .chunks) y; fine = fine })
-      (below (afterChunk s p t) (omega arith) k)
+      (below (pastChunk (chunkOf s p) (paramsThen s p t) t) (omega arith) k)
 
   at-instr : tagAt s p ≡ 3 → Then (instrStep s p t) → Walk s w p (p ∷ ps) t
   unfolding instrStep
   at-instr tag h =
       let due = ltb 1 (t .place) && ltb (t .place) 5 in
       let n = instrFault due (lenAt s p) (instrOf s p) t in
-      went n (inField n (t .seen - 1) (t .instrs)) (afterInstr t) (λ u. scanFrom s ps u) w h λ e k.
+      went n (inField n (t .seen - 1) (t .instrs)) (pastInstr t) (λ u. scanFrom s ps u) w h λ e k.
       let (d, fine) = instr-fine due (lenAt s p) (instrOf s p) t e in
       let (x, y) = both (ltb 1 (t .place)) _ d in
       instr (record { tag = tag; fits = fits; past = ltb-true 1 (t .place) x; early = ltb-true (t .place) 5 y; fine = fine })
-      (below (afterInstr t) (omega arith) k)
+      (below (pastInstr t) (omega arith) k)
 
   at-site : tagAt s p ≡ 4 → Then (siteStep s p t) → Walk s w p (p ∷ ps) t
   unfolding siteStep
@@ -244,7 +198,7 @@ pub record Starts (s : List ℕ) (w : ℕ) : Type 0 where
   pub fine : HeaderFine (lenAt s 0) (headerOf s 0)
   pub rest : List ℕ
   pub fields : fieldsFrom s 0 ≡ 0 ∷ rest
-  pub walk : Walk s w (nextAt s 0) rest (afterHeader s)
+  pub walk : Walk s w (nextAt s 0) rest (pastHeader (headerOf s 0))
 
 module _ {C : Type 0} (s : List ℕ) (w : ℕ) (k : Scan → Form) where
   no-chunk : onStep (chunkStep s 0 unscanned) k ≡ Fine w → C
@@ -270,7 +224,7 @@ module _ {C : Type 0} (s : List ℕ) (w : ℕ) (k : Scan → Form) where
       went n (nowhere n 0) _ k w h λ e q. never (table-fine s 0 tag false (lenAt s 0) (soFar unscanned tag) e .0)
 
   first-step : onStep (fieldStep s 0 unscanned) k ≡ Fine w
-      → (tagAt s 0 ≡ 1 → nextAt s 0 ≤ length s → HeaderFine (lenAt s 0) (headerOf s 0) → k (afterHeader s) ≡ Fine w → C) → C
+      → (tagAt s 0 ≡ 1 → nextAt s 0 ≤ length s → HeaderFine (lenAt s 0) (headerOf s 0) → k (pastHeader (headerOf s 0)) ≡ Fine w → C) → C
   unfolding fieldStep onStep headerStep
   first-step h f =
       let t = tagAt s 0 in
@@ -279,7 +233,7 @@ module _ {C : Type 0} (s : List ℕ) (w : ℕ) (k : Scan → Form) where
       header : ltb (length s) (nextAt s 0) ≡ false → eqb (tagAt s 0) 1 ≡ true → onStep (headerStep s 0 unscanned) k ≡ Fine w → C
       header q x h =
           let n = headerFault true (lenAt s 0) (headerOf s 0) in
-          went n (nowhere n 0) (afterHeader s) k w h λ e g.
+          went n (nowhere n 0) (pastHeader (headerOf s 0)) k w h λ e g.
           f (eqb-true (tagAt s 0) 1 x) (ltb-false _ _ q) (header-fine true (lenAt s 0) (headerOf s 0) e .1) g
 
       go : (a b c d e f : Bool) → ltb (length s) (nextAt s 0) ≡ a → eqb (tagAt s 0) 1 ≡ b
@@ -321,7 +275,7 @@ scan-starts s w (suc f) l e h = go (ltb 0 (length s)) refl e h
           fine = fine;
           rest = ps;
           fields = e;
-          walk = walk s w f (nextAt s 0) (afterHeader s) (omega arith) g;
+          walk = walk s w f (nextAt s 0) (pastHeader (headerOf s 0)) (omega arith) g;
         }
     go false b e h = unfinished s w h
 

@@ -52,7 +52,7 @@ pub fn count_guards(s: &[u8], ws: &[u32], t: Tables, v: Visit, want: Want) -> us
 fn instr_bytes(s: &[u8], ws: &[u32], t: Tables, c: usize, ch: Chunk, i: usize) -> usize
     requires { ⌜ Finished (now s) (now ws) t ⌝ }
     requires { ⌜ Here (now s) (now ws) c ch i ⌝ }
-    ensures { λ r. ⌜ (r ≡ length (allFor (now (s .entry)) (now (ws .entry)) c i)) × (r ≤ 16384) ⌝ }
+    ensures { λ r. ⌜ (r ≡ length (allFor (now (s .entry)) (now (ws .entry)) c i)) × (r ≤ 16170) ⌝ }
 {
     let row = row_at(ch, i);
     if !is_recorded(ws, row) {
@@ -73,7 +73,7 @@ fn instr_bytes(s: &[u8], ws: &[u32], t: Tables, c: usize, ch: Chunk, i: usize) -
 fn chunk_bytes(s: &[u8], ws: &[u32], t: Tables, c: usize) -> usize
     requires { ⌜ Finished (now s) (now ws) t ⌝ }
     requires { ⌜ c < length (moduleOf (now s) .chunks) ⌝ }
-    ensures { λ r. ⌜ (r ≡ length (allIn (now (s .entry)) (now (ws .entry)) c)) × (r ≤ 67108864) ⌝ }
+    ensures { λ r. ⌜ (r ≡ length (allIn (now (s .entry)) (now (ws .entry)) c)) × (r ≤ 66232320) ⌝ }
 {
     let ch = chunk_at(s, ws, c);
     let count = recorded_count(ch);
@@ -105,7 +105,9 @@ pub fn measure(s: &[u8], ws: &[u32], t: Tables) -> usize
     requires { ⌜ Ended (now s) (now ws) ⌝ }
     requires { ⌜ Faultless (now s) (now ws) ⌝ }
     requires { ⌜ t ≡ tablesOf (now s) ⌝ }
-    ensures { λ r. ⌜ ((reply : ℕ) → r ≡ length (reportBytes (reportIn (now (s .entry)) (now (ws .entry)) reply))) ⌝ }
+    ensures { λ r. ⌜
+        ((reply : ℕ) → r ≡ length (reportBytes (reportIn (now (s .entry)) (now (ws .entry)) reply))) × (r < 4294967296)
+        ⌝ }
 {
     let mut c = 0;
     let mut n = 7 + 52 * t.slots;

@@ -1,5 +1,5 @@
 -- A report read back from its bytes is the report.
-use Prim.Native.Nat.{ℕ, zero, suc, _+_, _*_, _-_}
+use Prim.Native.Nat.{ℕ, _+_, _*_, _-_}
 use native.Mathlib.Omega.{arith}
 use mathlib.Core.Path.{_≡_, refl, sym, _∙_, ap, ap₂}
 use mathlib.Core.List.{List, [], _∷_, _++_, map, append-nil}
@@ -111,8 +111,7 @@ branchIn x = le16 (x .chunk) ++ (le16 (x .instruction) ++ (x .value ∷ []))
 
 inputs-in : (n : ℕ) → inputsIn (49 * n) ≡ n
 unfolding inputsIn
-inputs-in zero = refl
-inputs-in (suc n) = rw (ne-eqb (49 * suc n) 0 (λ e. absurd (omega arith))) (omega arith)
+inputs-in n = omega arith
 
 signature-read : {s : List ℕ} {p : ℕ} (x : Signature) → ProperSignature x → Has s p (field 17 (signatureIn x)) → readSignature s p ≡ x
 unfolding readSignature

@@ -65,7 +65,7 @@ readCells s q n = rowAt (readCell s) 49 q n
 -- ---- the fields, each at the place of its tag
 -- tag 17: as many inputs as its length has room for, less the result
 unfoldable pub inputsIn : ℕ → ℕ
-inputsIn len = cond (eqb len 0) 0 (len / 49)
+inputsIn len = len / 49
 
 unfoldable pub readSignature : List ℕ → ℕ → Signature
 readSignature s p =

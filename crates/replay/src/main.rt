@@ -8,13 +8,12 @@ use le::u16_at;
 use le::u32_at;
 use std::num::wrapping_add_u8;
 use std::num::wrapping_add_u32;
-
-// How far the replay is: the entries that agreed and those that didn't, and whether more may follow.
-struct Tally {
-    agreed: u32,
-    differ: u32,
-    more: bool,
-}
+use tally::Tally;
+use tally::begun;
+use tally::counted;
+use tally::ended;
+use tally::note;
+use tally::say;
 
 // Marks that show each word and byte that was written: words are odd, bytes count up.
 fn mark_words(ws: &mut [u32]) {
@@ -135,46 +134,6 @@ fn read_part(to: &mut [u8], n: usize) -> bool {
     io::read_full(0, &mut to[..n]) == n
 }
 
-fn counted(t: Tally, fine: bool) -> Tally {
-    if fine {
-        return Tally {
-            agreed: wrapping_add_u32(t.agreed, 1),
-            differ: t.differ,
-            more: true,
-        };
-    }
-    Tally {
-        agreed: t.agreed,
-        differ: wrapping_add_u32(t.differ, 1),
-        more: true,
-    }
-}
-
-fn ended(t: Tally) -> Tally {
-    Tally {
-        agreed: t.agreed,
-        differ: t.differ,
-        more: false,
-    }
-}
-
-fn say(t: Tally) {
-    io::print_decimal(1, t.agreed as u64);
-    io::write_all(1, b" agreed, ");
-    io::print_decimal(1, t.differ as u64);
-    io::write_all(1, b" differ\n");
-}
-
-// Says which entry differs, counted from 1.
-fn note(t: Tally, fine: bool) {
-    if fine {
-        return;
-    }
-    io::write_all(1, b"differs: entry ");
-    io::print_decimal(1, (wrapping_add_u32(t.agreed, t.differ) as u64) + 1);
-    io::write_all(1, b"\n");
-}
-
 // One entry more, its head already read: the description, the report, the call.
 fn entry(head: &[u8], ws: &mut [u32], buf: &mut [u8], t: Tally) -> Tally {
     let mut description = [0u8; 4096];
@@ -198,11 +157,7 @@ fn main() {
     let mut ws = [0u32; 16384];
     let mut buf = [0u8; 8192];
     let mut left: u32 = 1000000;
-    let mut t = Tally {
-        agreed: 0,
-        differ: 0,
-        more: true,
-    };
+    let mut t = begun();
     while 0 < left {
         t = turn(&mut ws, &mut buf, t);
         left = if t.more { left - 1 } else { 0 };

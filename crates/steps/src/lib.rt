@@ -14,7 +14,7 @@ use heads::header_at;
 use tablerules::table_fault;
 ghost use mathlib.Core.Path.{_≡_};
 ghost use Prim.Native.Nat.{_<_, _^_};
-ghost use Rattle.definition.specs.Form.{headerStep, siteStep, soFar, tableStep, fieldStep};
+ghost use Rattle.definition.specs.Form.{headerStep, placed, siteStep, soFar, tableStep, fieldStep};
 ghost use Rattle.codesteps.specs.Bounds.{Bounded};
 
 fn header_step(s: &[u8], p: usize, scan: Scan) -> Step
@@ -41,27 +41,30 @@ fn header_step(s: &[u8], p: usize, scan: Scan) -> Step
     )
 }
 
+// The scan past a field of tags 4 to 8.
+fn placed(tag: u8, count: u32, scan: Scan) -> Scan
+    ensures { λ r. ⌜ r ≡ placed tag count scan ⌝ }
+{
+    Scan {
+        place: tag,
+        chunks: scan.chunks,
+        signatures: scan.signatures,
+        layout: scan.layout,
+        seen: scan.seen,
+        locals: scan.locals,
+        stack: scan.stack,
+        instrs: scan.instrs,
+        count,
+        cells: scan.cells,
+    }
+}
+
 fn site_step(s: &[u8], p: usize, scan: Scan) -> Step
     requires { ⌜ p < 2 ^ 61 ⌝ }
     ensures { λ r. ⌜ r ≡ siteStep (now (s .entry)) p scan ⌝ }
 {
     let n = site_fault(s, p, scan.place == 3, len_at(s, p));
-    or_stop(
-        n,
-        nowhere(n, 0),
-        Scan {
-            place: 4,
-            chunks: scan.chunks,
-            signatures: scan.signatures,
-            layout: scan.layout,
-            seen: scan.seen,
-            locals: scan.locals,
-            stack: scan.stack,
-            instrs: scan.instrs,
-            count: scan.count,
-            cells: scan.cells,
-        },
-    )
+    or_stop(n, nowhere(n, 0), placed(4, scan.count, scan))
 }
 
 // The fields of one tag so far, where the last was of this tag; else none.
@@ -88,22 +91,8 @@ fn table_step(s: &[u8], p: usize, tag: u8, scan: Scan) -> Step
         len_at(s, p),
         count,
     );
-    or_stop(
-        n,
-        nowhere(n, 0),
-        Scan {
-            place: tag,
-            chunks: scan.chunks,
-            signatures: scan.signatures,
-            layout: scan.layout,
-            seen: scan.seen,
-            locals: scan.locals,
-            stack: scan.stack,
-            instrs: scan.instrs,
-            count: count + 1,
-            cells: scan.cells,
-        },
-    )
+    let more = count + 1;
+    or_stop(n, nowhere(n, 0), placed(tag, more, scan))
 }
 
 pub fn field_step(s: &[u8], p: usize, scan: Scan) -> Step

@@ -19,13 +19,13 @@ nowhere-requires c κs = search needs
 
 -- src/lib.rt:38:9
 returns : tie.Need-returns
-returns c = rw (c .nowhere .ensures) (told-long _ _ _ _ (c .before .before .measure .ensures (c .before .before .before .before .before .before .args .reply)) (c .before .if1 .taken))
+returns c = rw (c .nowhere .ensures) (told-long _ _ _ _ (c .before .before .measure .ensures .0 (c .before .before .before .before .before .before .args .reply)) (c .before .if1 .taken))
 
 -- src/lib.rt:40:5
 write-requires : tie.Need-write-requires
 write-requires c κs =
     let p = c .before .before .before .before .before .before .pre in
-    (p .0, (p .1 .0, (p .1 .1, omega (arith, c .before .before .measure .ensures (c .before .before .before .before .before .before .args .reply), c .before .if1 .left))))
+    (p .0, (p .1 .0, (p .1 .1, omega (arith, c .before .before .measure .ensures .0 (c .before .before .before .before .before .before .args .reply), c .before .if1 .left))))
 
 -- src/lib.rt:30:1
 same-length : tie.Need-same-length
@@ -34,7 +34,7 @@ same-length c = search needs
 -- src/lib.rt:30:1
 returns-2 : tie.Need-returns-2
 returns-2 c =
-    told-written _ _ _ _ _ (c .before .before .before .before .before .measure .ensures (c .before .before .before .before .before .before .before .before .before .args .reply)) (omega (arith, c .before .before .before .before .if1 .left)) (c .before .before .write .ensures)
+    told-written _ _ _ _ _ (c .before .before .before .before .before .measure .ensures .0 (c .before .before .before .before .before .before .before .before .before .args .reply)) (c .before .before .before .before .before .measure .ensures .1) (omega (arith, c .before .before .before .before .if1 .left)) (c .before .before .write .ensures)
 
 pub deliver-spec : {M : Type 1} → statement M
 deliver-spec =

@@ -8,7 +8,7 @@ check-requires : tie.Need-check-requires
 check-requires c κs = search needs
 
 in-words-requires : tie.Need-in-words-requires
-in-words-requires c κs = search needs
+in-words-requires c κs = c .before .before .before .before .check .ensures .short
 
 number-of-requires : tie.Need-number-of-requires
 number-of-requires c κs = search needs

@@ -5,10 +5,6 @@ use native.Mathlib.Omega.{arith}
 use borrow.Author.Needs.{needs}
 use Rattle.formreplay.proofs.append.Statement.{statement}
 use Rattle.formreplay.proofs.append.Tie as tie
-use Rattle.formreplay.proofs.append.Reads as reads
-use Rattle.formreplay.proofs.append.Lts as lts
-use Rattle.formreplay.proofs.put.Reads as put-reads
-use Rattle.le.proofs.u8_at.Reads as u8-at-reads
 
 abbrev Inv-loop : tie.InvT-loop
 Inv-loop to₀ n from first end k₀ m₀ to k m = length to ≡ length to₀
@@ -16,35 +12,27 @@ Inv-loop to₀ n from first end k₀ m₀ to k m = length to ≡ length to₀
 abbrev μ-loop : tie.MeasureT-loop
 μ-loop to₀ n from first end k₀ m₀ to k m = end - k
 
--- src/main.rt:31:5
 loop-holds : tie.Need-loop-holds Inv-loop μ-loop
 loop-holds c = refl
 
--- src/main.rt:32:24
 u8-at-requires : tie.Need-u8-at-requires Inv-loop μ-loop
 u8-at-requires c κs = search needs
 
--- src/main.rt:32:9
 put-requires : tie.Need-put-requires Inv-loop μ-loop
 put-requires c κs = search needs
 
--- src/main.rt:33:9
 add-k : tie.Need-add-k Inv-loop μ-loop
 add-k c = omega arith
 
--- src/main.rt:31:5
 loop-less : tie.Need-loop-less Inv-loop μ-loop
 loop-less c = omega arith
 
--- src/main.rt:31:5
 loop-again : tie.Need-loop-again Inv-loop μ-loop
 loop-again c = search needs
 
--- src/main.rt:28:1
 same-length : tie.Need-same-length Inv-loop μ-loop
 same-length c = search needs
 
--- src/main.rt:28:1
 returns : tie.Need-returns Inv-loop μ-loop
 returns c = search needs
 

@@ -4,9 +4,6 @@ use native.Mathlib.Omega.{arith}
 use borrow.Author.Needs.{needs}
 use Rattle.formreplay.proofs.append_often.Statement.{statement}
 use Rattle.formreplay.proofs.append_often.Tie as tie
-use Rattle.formreplay.proofs.append_often.Reads as reads
-use Rattle.formreplay.proofs.append_often.Lts as lts
-use Rattle.formreplay.proofs.append.Reads as append-reads
 
 abbrev Inv-loop : tie.InvT-loop
 Inv-loop to₀ n from end times left₀ m₀ to left m = length to ≡ length to₀
@@ -14,31 +11,24 @@ Inv-loop to₀ n from end times left₀ m₀ to left m = length to ≡ length to
 abbrev μ-loop : tie.MeasureT-loop
 μ-loop to₀ n from end times left₀ m₀ to left m = left
 
--- src/main.rt:41:5
 loop-holds : tie.Need-loop-holds Inv-loop μ-loop
 loop-holds c = refl
 
--- src/main.rt:42:9
 append-requires : tie.Need-append-requires Inv-loop μ-loop
 append-requires c κs = search needs
 
--- src/main.rt:43:9
 sub-left : tie.Need-sub-left Inv-loop μ-loop
 sub-left c = omega arith
 
--- src/main.rt:41:5
 loop-less : tie.Need-loop-less Inv-loop μ-loop
 loop-less c = omega arith
 
--- src/main.rt:41:5
 loop-again : tie.Need-loop-again Inv-loop μ-loop
 loop-again c = search needs
 
--- src/main.rt:38:1
 same-length : tie.Need-same-length Inv-loop μ-loop
 same-length c = search needs
 
--- src/main.rt:38:1
 returns : tie.Need-returns Inv-loop μ-loop
 returns c = search needs
 

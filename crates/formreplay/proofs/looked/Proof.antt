@@ -3,28 +3,19 @@ use native.Mathlib.Omega.{arith}
 use borrow.Author.Needs.{needs}
 use Rattle.formreplay.proofs.looked.Statement.{statement}
 use Rattle.formreplay.proofs.looked.Tie as tie
-use Rattle.formreplay.proofs.looked.Reads as reads
-use Rattle.formreplay.proofs.looked.Lts as lts
-use Rattle.form.proofs.check_form.Reads as check-form-reads
-use Rattle.formreplay.proofs.agrees.Reads as agrees-reads
 
--- src/main.rt:63:9
 returns : tie.Need-returns
 returns c = search needs
 
--- src/main.rt:65:23
 slice-aggregate-check-form : tie.Need-slice-aggregate-check-form
 slice-aggregate-check-form c = omega (arith, length-take (c .before .before .before .before .args .n) (c .before .before .before .before .args .work .now))
 
--- src/main.rt:65:12
 check-form-requires : tie.Need-check-form-requires
 check-form-requires c κs = search needs
 
--- src/main.rt:65:5
 agrees-requires : tie.Need-agrees-requires
 agrees-requires c κs = search needs
 
--- src/main.rt:61:1
 returns-2 : tie.Need-returns-2
 returns-2 c = search needs
 

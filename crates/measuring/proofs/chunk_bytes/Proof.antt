@@ -14,7 +14,7 @@ use Rattle.measuring.proofs.chunk_bytes.Tie as tie
 
 abbrev Inv-loop : tie.InvT-loop
 Inv-loop s ws t c ch count i₀ n₀ i n =
-    (i ≤ count) × (count ≡ recordable s c) × (count ≤ 4096) × (n ≡ length (span (allFor s ws c) 0 i)) × (n ≤ 16384 * i)
+    (i ≤ count) × (count ≡ recordable s c) × (count ≤ 4096) × (n ≡ length (span (allFor s ws c) 0 i)) × (n ≤ 16170 * i)
 
 abbrev μ-loop : tie.MeasureT-loop
 μ-loop s ws t c ch count i₀ n₀ i n = count - i

@@ -15,7 +15,7 @@ use Rattle.measuring.proofs.measure.Tie as tie
 abbrev Inv-loop : tie.InvT-loop
 Inv-loop s ws t c₀ n₀ c n =
     (c ≤ t .chunks) × (t .chunks ≤ 64) × (t .slots ≤ 1024) × (n ≡ 7 + 52 * t .slots + length (span (cut (signatureAt s ws) (t .signatures)) 0 c) + length (span (allIn s ws) 0 c))
-    × (n ≤ 65536 + 67110000 * c)
+    × (n ≤ 65536 + 66233344 * c)
 
 abbrev μ-loop : tie.MeasureT-loop
 μ-loop s ws t c₀ n₀ c n = t .chunks - c
@@ -87,17 +87,19 @@ returns : tie.Need-returns Inv-loop μ-loop
 returns c =
     let a = c .before .before .before .before .before .before .args in
     let i = c .before .before .loop .inv in
-    λ reply.
     let e : c .before .before .loop .c ≡ length (moduleOf (now (a .s)) .chunks) = omega (arith, i .0, c .if1 .left, chunks-are (now (a .s)) (a .t) (c .before .before .before .before .before .before .pre .1 .1)) in
-    let g = report-long (now (a .s)) (now (a .ws)) (c .before .before .before .before .before .before .pre .0 .prepared .indexed) reply in
-    omega (
-      arith,
-      i .3,
-      g,
-      slots-are (now (a .s)) (a .t) (c .before .before .before .before .before .before .pre .1 .1),
-      ap (λ (k : ℕ). length (span (cut (signatureAt (now (a .s)) (now (a .ws))) (a .t .signatures)) 0 k)) e,
-      ap (λ (k : ℕ). length (span (cut (signatureAt (now (a .s)) (now (a .ws))) k) 0 (length (moduleOf (now (a .s)) .chunks)))) (signatures-are (now (a .s)) (a .t) (c .before .before .before .before .before .before .pre .1 .1)),
-      ap (λ (k : ℕ). length (span (allIn (now (a .s)) (now (a .ws))) 0 k)) e,
+    let g = report-long (now (a .s)) (now (a .ws)) (c .before .before .before .before .before .before .pre .0 .prepared .indexed) in (
+      λ reply.
+          omega (
+            arith,
+            i .3,
+            g reply,
+            slots-are (now (a .s)) (a .t) (c .before .before .before .before .before .before .pre .1 .1),
+            ap (λ (k : ℕ). length (span (cut (signatureAt (now (a .s)) (now (a .ws))) (a .t .signatures)) 0 k)) e,
+            ap (λ (k : ℕ). length (span (cut (signatureAt (now (a .s)) (now (a .ws))) k) 0 (length (moduleOf (now (a .s)) .chunks)))) (signatures-are (now (a .s)) (a .t) (c .before .before .before .before .before .before .pre .1 .1)),
+            ap (λ (k : ℕ). length (span (allIn (now (a .s)) (now (a .ws))) 0 k)) e,
+          ),
+      omega (arith, i .0, i .1, i .4),
     )
 
 pub measure-spec : {M : Type 1} → statement M

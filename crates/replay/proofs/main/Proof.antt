@@ -12,6 +12,9 @@ Inv-loop ws₀ buf₀ left₀ t₀ ws buf left t = (16384 ≡ length ws) × (819
 abbrev μ-loop : tie.MeasureT-loop
 μ-loop ws₀ buf₀ left₀ t₀ ws buf left t = left
 
+begun-requires : tie.Need-begun-requires Inv-loop μ-loop
+begun-requires c κs = search needs
+
 loop-holds : tie.Need-loop-holds Inv-loop μ-loop
 loop-holds c = (search needs, search needs)
 
@@ -51,6 +54,7 @@ main-spec =
     (tie.spec
     Inv-loop
     μ-loop
+    begun-requires
     loop-holds
     slice-aggregate-turn
     slice-aggregate-turn-2

@@ -13,6 +13,9 @@ site-fault-requires c κs = search needs
 nowhere-requires : tie.Need-nowhere-requires
 nowhere-requires c κs = search needs
 
+placed-requires : tie.Need-placed-requires
+placed-requires c κs = search needs
+
 or-stop-requires : tie.Need-or-stop-requires
 or-stop-requires c κs = search needs
 
@@ -23,4 +26,4 @@ returns c = cc
 pub site-step-spec : {M : Type 1} → statement M
 site-step-spec =
     tie.close
-    (tie.spec len-at-requires site-fault-requires nowhere-requires or-stop-requires returns)
+    (tie.spec len-at-requires site-fault-requires nowhere-requires placed-requires or-stop-requires returns)

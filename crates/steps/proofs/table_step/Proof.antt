@@ -16,11 +16,14 @@ len-at-requires c κs = search needs
 table-fault-requires : tie.Need-table-fault-requires
 table-fault-requires c κs = search needs
 
+add-more : tie.Need-add-more
+add-more c = omega (arith, c .before .before .before .before .before .before .before .pre .1 .count, so-far-le (c .before .before .before .before .before .before .before .args .scan) (c .before .before .before .before .before .before .before .args .tag) (2 ^ 31) (c .before .before .before .before .before .before .before .pre .1 .count))
+
 nowhere-requires : tie.Need-nowhere-requires
 nowhere-requires c κs = search needs
 
-add-t16 : tie.Need-add-t16
-add-t16 c = omega (arith, c .before .before .before .before .before .before .before .before .pre .1 .count, so-far-le (c .before .before .before .before .before .before .before .before .args .scan) (c .before .before .before .before .before .before .before .before .args .tag) (2 ^ 31) (c .before .before .before .before .before .before .before .before .pre .1 .count))
+placed-requires : tie.Need-placed-requires
+placed-requires c κs = search needs
 
 or-stop-requires : tie.Need-or-stop-requires
 or-stop-requires c κs = search needs
@@ -36,7 +39,8 @@ table-step-spec =
     so-far-requires
     len-at-requires
     table-fault-requires
+    add-more
     nowhere-requires
-    add-t16
+    placed-requires
     or-stop-requires
     returns)
