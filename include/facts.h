@@ -55,9 +55,7 @@ enum {
     FACTS_CHUNK,       /* the chunk that the refusal names, or FACTS_NOWHERE */
     FACTS_INSTRUCTION, /* the instruction that it names, or FACTS_NOWHERE */
     FACTS_STEPS,       /* the steps taken */
-    FACTS_LENGTH,      /* the report's length in bytes, its low 32 bits: a report
-                          of 4 GiB needs a description over 1,048,576 bytes;
-                          0 in a refusal */
+    FACTS_LENGTH,      /* the report's length in bytes; 0 in a refusal */
     FACTS_ANSWER       /* how many numbers an answer has */
 };
 
