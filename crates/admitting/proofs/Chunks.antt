@@ -26,7 +26,7 @@ use Rattle.goodform.specs.Good.{Good, noChunk, chunkNo, noShape}
 use Rattle.layout.specs.declared.Tables.{Tables}
 use Rattle.layout.specs.declared.Chunk.{Chunk as ChunkNumbers}
 use Rattle.layout.specs.Indexed.{Indexed, tablesOf, chunkPlace, chunkAt}
-use Rattle.layout.specs.Read.{place-small, place-is, count-is, params-is, chunks-are}
+use Rattle.layout.proofs.Read.{place-small, place-is, count-is, params-is, chunks-are}
 use Rattle.admitting.specs.Admitting.{Stands, Least, fitsTag, found}
 
 -- ---- the numbers and the bytes of a chunk

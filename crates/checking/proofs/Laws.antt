@@ -23,8 +23,9 @@ use Rattle.consistent.proofs.Bytes.{demand-3}
 use Rattle.numbers.proofs.Forms.{form-numbers}
 use Rattle.numbers.proofs.Left.{left-as-was, decided-zero}
 use Rattle.room.specs.Room.{roomBy, withRoom, roomOf}
-use Rattle.room.specs.Decides.{onRoom, room-decides, room-fine}
-use Rattle.clearing.specs.Clearing.{cleared, cleared-all}
+use Rattle.room.proofs.Decides.{onRoom, room-decides, room-fine}
+use Rattle.clearing.specs.Clearing.{cleared}
+use Rattle.clearing.proofs.Clearing.{cleared-all}
 use Rattle.analyzing.specs.Told.{Told}
 use Rattle.analyzing.proofs.Laws.{short-refused}
 use Rattle.checking.specs.Checked.{Checked}

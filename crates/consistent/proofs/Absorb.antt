@@ -17,7 +17,7 @@ use Rattle.masks.specs.Names.{NONE}
 use Rattle.flows.specs.Flow.{joinFlow, noFlow}
 use Rattle.cells.specs.declared.Cell.{Cell}
 use Rattle.cells.specs.Cell.{joinCell}
-use Rattle.laws.specs.Join.{takes-trans}
+use Rattle.laws.proofs.Join.{takes-trans}
 use Rattle.laws.proofs.Lists.{eachSame, each-equals}
 use Rattle.laws.proofs.Masks.{union-joins, mask-equals}
 use Rattle.laws.proofs.Flows.{flow-joins, flow-equals}

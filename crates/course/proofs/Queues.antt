@@ -6,10 +6,11 @@ use mathlib.Core.List.{List, [], _∷_, _++_}
 use lib.ListN.{length, getD, List·getD-append}
 use lib.Seq.{getD-at}
 use Rattle.ring.specs.declared.Queue.{Queue}
-use Rattle.ring.specs.Ring.{Ready, capOf, slot, entryAt, tab, tab-eq, queueOf, pushed, grown, entries-push, ready-push, push-below}
+use Rattle.ring.specs.Ring.{Ready, capOf, slot, entryAt, tab, queueOf, pushed, grown}
+use Rattle.ring.proofs.Ring.{tab-eq, entries-push, ready-push, push-below}
 use Rattle.definition.specs.Module.{moduleOf}
 use Rattle.goodform.specs.Good.{chunkNo, wordsOf}
-use Rattle.layout.specs.Apart.{by-order, row-in, rows-in}
+use Rattle.layout.proofs.Apart.{by-order, row-in, rows-in}
 use Rattle.layout.proofs.Kept.{steady-push}
 use Rattle.course.specs.Course.{statesIn, Low, Queued, RowsOnly}
 use Rattle.course.proofs.Rows.{SameRow, states-kept, low-kept}

@@ -13,7 +13,7 @@ use Rattle.definition.specs.State.{State}
 use Rattle.goodform.proofs.Each.{suc-out, row-length, row-at}
 use Rattle.goodform.specs.Good.{chunkNo, rowCells}
 use Rattle.layout.specs.Layout.{rowAt}
-use Rattle.layout.specs.Apart.{by-order, row-before, row-begins, row-in, rows-end, area-apart, result-begins, result-next}
+use Rattle.layout.proofs.Apart.{by-order, row-before, row-begins, row-in, rows-end, area-apart, result-begins, result-next}
 use Rattle.layout.proofs.Kept.{steady-refl, steady-trans}
 use Rattle.rows.specs.Leave.{stateBy, stateIn}
 use Rattle.course.specs.Course.{statesIn, pastIn, Low, LowBefore, RowsOnly}

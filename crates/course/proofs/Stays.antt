@@ -15,7 +15,7 @@ use Rattle.definition.specs.Module.{Module, moduleOf}
 use Rattle.goodform.specs.Good.{chunkNo}
 use Rattle.layout.specs.Layout.{areaOf, slotAt, inputAt, resultAt, rowsAt}
 use Rattle.layout.specs.Indexed.{Indexed, suspendsAt}
-use Rattle.layout.specs.Apart.{by-order, area-apart, areas-behind, slots-first, inputs-begin, result-begins, result-next, rows-in-area, rows-in, rows-end}
+use Rattle.layout.proofs.Apart.{by-order, area-apart, areas-behind, slots-first, inputs-begin, result-begins, result-next, rows-in-area, rows-in, rows-end}
 use Rattle.layout.proofs.Kept.{Steady, indexed-steady, suspends-steady}
 use Rattle.held.specs.Held.{factsIn, writesIn, liveIn, knownIn}
 use Rattle.course.specs.Course.{statesIn, Prepared, Low, RowsOnly, FactsOnly}

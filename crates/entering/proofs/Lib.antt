@@ -1,1 +1,4 @@
 pub mod Rounds
+pub mod Began
+pub mod Reach
+pub mod Rows

@@ -18,7 +18,8 @@ use Rattle.course.specs.declared.Run.{Run}
 use Rattle.course.specs.Course.{finalIn, pastIn, roomIn, knownAs, Low, LowBefore, Prepared}
 use Rattle.entering.specs.declared.Settled.the-variants.{Due, Done}
 use Rattle.entering.specs.Entering.{whereIn, Goes, Opened}
-use Rattle.entering.specs.Reach.{Reached, enters-found, enters-none}
+use Rattle.entering.specs.Reach.{Reached}
+use Rattle.entering.proofs.Reach.{enters-found, enters-none}
 use Rattle.entering.specs.Began.{entered, Began}
 
 -- the machine goes on from the chunk n, with the states of those before

@@ -18,7 +18,8 @@ use Rattle.definition.specs.declared.Step.the-variants.{Go, Stop}
 use Rattle.definition.specs.Module.{signedParams}
 use Rattle.definition.specs.Form.{nowhere, headerFault, chunkFault, instrFault, siteFault, tableFault, orStop, inField, pastHeader, headerStep, pastChunk, chunkStep, pastInstr, instrStep, placed, siteStep, soFar, tableStep, fieldStep}
 use Rattle.late.specs.Counted.{counted}
-use Rattle.codesteps.specs.Bounds.{Bounded, so-far-le}
+use Rattle.codesteps.specs.Bounds.{Bounded}
+use Rattle.codesteps.proofs.Bounds.{so-far-le}
 
 -- ---- what a step leaves
 pub record After (s : List ℕ) (p : ℕ) (t u : Scan) : Type 0 where

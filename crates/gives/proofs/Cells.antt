@@ -18,7 +18,7 @@ use Rattle.definition.specs.Leaves.{absorb}
 use Rattle.goodform.specs.Good.{chunkNo}
 use Rattle.layout.specs.Layout.{inputAt, resultAt}
 use Rattle.layout.specs.Indexed.{Indexed}
-use Rattle.layout.specs.Apart.{inputs-begin, result-begins, result-next}
+use Rattle.layout.proofs.Apart.{inputs-begin, result-begins, result-next}
 use Rattle.keep.specs.Arrive.{Arrived, arrive, moves}
 use Rattle.keep.proofs.Laws.{sameCells-whole}
 use Rattle.held.specs.Held.{factsIn, liveIn}

@@ -15,7 +15,7 @@ use Rattle.definition.specs.Module.{Module, moduleOf}
 use Rattle.definition.specs.State.{Live}
 use Rattle.goodform.specs.Good.{chunkNo}
 use Rattle.layout.specs.Layout.{areaOf, slotAt, inputAt, resultAt, rowsAt, rowAt}
-use Rattle.layout.specs.Apart.{by-order, area-apart, areas-behind, numbers-first, slots-first, slots-apart, slots-behind, slots-in, row-before, row-begins, rows-begin, rows-in, rows-in-area, inputs-begin, result-begins, result-next}
+use Rattle.layout.proofs.Apart.{by-order, area-apart, areas-behind, numbers-first, slots-first, slots-apart, slots-behind, slots-in, row-before, row-begins, rows-begin, rows-in, rows-in-area, inputs-begin, result-begins, result-next}
 use Rattle.layout.proofs.Kept.{steady-refl, steady-trans, steady-free, facts-free}
 use Rattle.held.specs.Held.{factsIn, writesIn}
 use Rattle.course.specs.Course.{FactsOnly}

@@ -30,7 +30,7 @@ use Rattle.definition.specs.Wants.{returned as valueBelow}
 use Rattle.definition.specs.Leaves.{visitOf, hopeless, nothingBelow, always, givesBy, gives, absorb}
 use Rattle.goodform.specs.Good.{chunkNo, lineNo}
 use Rattle.layout.specs.Layout.{inputAt, placeAt}
-use Rattle.layout.specs.Apart.{by-order, area-apart, row-before, row-begins, rows-begin, rows-in-area, result-next, result-in, inputs-begin}
+use Rattle.layout.proofs.Apart.{by-order, area-apart, row-before, row-begins, rows-begin, rows-in-area, result-next, result-in, inputs-begin}
 use Rattle.keep.specs.Arrive.{Places}
 use Rattle.held.specs.declared.Visit.{Visit as Look}
 use Rattle.held.specs.Held.{Looking, argsIn, knownIn, visitIn, liveIn}

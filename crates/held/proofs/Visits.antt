@@ -9,7 +9,7 @@ use Rattle.words.proofs.RowLaws.{cellsAt-length, cellsAt-take, cellsAt-drop}
 use Rattle.definition.specs.Module.{moduleOf}
 use Rattle.definition.specs.Leaves.{visitOf}
 use Rattle.goodform.specs.Good.{chunkNo, lineNo, rowCells}
-use Rattle.layout.specs.Apart.{row-in}
+use Rattle.layout.proofs.Apart.{row-in}
 use Rattle.held.specs.declared.Visit.{Visit as Look}
 use Rattle.held.specs.Held.{Looking, Standing, argsIn, stateOf, visitIn}
 

@@ -9,7 +9,8 @@ use Rattle.widths.specs.declared.Width.{Width}
 use Rattle.widths.specs.declared.Width.the-variants.{Unknown as Wide, Scalar, Body}
 use Rattle.cells.specs.Cell.{joinCell, sameCell, joinedCell}
 use Rattle.cells.specs.declared.Cell.{Cell}
-use Rattle.laws.specs.Join.{Joins, Equals, Takes, unchanged, still}
+use Rattle.laws.specs.Join.{Joins, Equals, Takes}
+use Rattle.laws.proofs.Join.{unchanged, still}
 use Rattle.laws.proofs.Flat.{flat-joins}
 use Rattle.laws.proofs.Masks.{union-joins, mask-equals, takes-within}
 use Rattle.laws.proofs.Flows.{flow-joins, flow-equals}

@@ -10,7 +10,8 @@ use Rattle.extents.specs.Extent.{joinBody, sameBody, joinExtent, sameExtent, jo
 use Rattle.extents.specs.declared.BodyExtent.{BodyExtent}
 use Rattle.extents.specs.declared.BodyExtent.the-variants.{Absent, Range, Unknown}
 use Rattle.extents.specs.declared.Extent.{Extent}
-use Rattle.laws.specs.Join.{Joins, Equals, Takes, unchanged, still}
+use Rattle.laws.specs.Join.{Joins, Equals, Takes}
+use Rattle.laws.proofs.Join.{unchanged, still}
 use Rattle.laws.proofs.Lists.{each, eachSame, each-joins, each-equals}
 
 body-idem : (x : BodyExtent) → joinBody x x ≡ x

@@ -13,7 +13,8 @@ use Rattle.flows.specs.declared.Origin.the-variants.{Nowhere, Local}
 use Rattle.flows.specs.declared.Predicate.{Predicate}
 use Rattle.flows.specs.declared.Predicate.the-variants.{Nothing as Untested, Tests}
 use Rattle.flows.specs.declared.Flow.{Flow}
-use Rattle.laws.specs.Join.{Joins, Equals, Takes, unchanged, still}
+use Rattle.laws.specs.Join.{Joins, Equals, Takes}
+use Rattle.laws.proofs.Join.{unchanged, still}
 use Rattle.laws.proofs.Flat.{flat-joins}
 use Rattle.laws.proofs.Extents.{bodies-joins, bodies-equals}
 

@@ -4,3 +4,4 @@ pub mod Masks
 pub mod Extents
 pub mod Flows
 pub mod Cells
+pub mod Join

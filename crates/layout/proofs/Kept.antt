@@ -20,7 +20,7 @@ use Rattle.definition.specs.Module.{Module, moduleOf}
 use Rattle.goodform.specs.Good.{chunkNo, rowCells, wordsOf}
 use Rattle.layout.specs.Layout.{areaCells, areaOf, numbersAt, slotAt, rowsAt, rowAt}
 use Rattle.layout.specs.Indexed.{Indexed, NumbersHold, suspendsAt, chunkAt}
-use Rattle.layout.specs.Apart.{by-order, row-before, area-apart, areas-behind, slots-first, numbers-in, slots-in, rows-begin, row-begins, row-apart, row-in-area, row-in, rows-in-area, slots-behind}
+use Rattle.layout.proofs.Apart.{by-order, row-before, area-apart, areas-behind, slots-first, numbers-in, slots-in, rows-begin, row-begins, row-apart, row-in-area, row-in, rows-in-area, slots-behind}
 
 pub record Kept (m : Module) (ws v : List ℕ) : Type 0 where
   pub long : length v ≡ length ws

@@ -1,4 +1,3 @@
 pub mod Layout
 pub mod Indexed
-pub mod Apart
 pub mod Read

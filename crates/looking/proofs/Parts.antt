@@ -15,7 +15,7 @@ use Rattle.layout.specs.Indexed.{tablesOf}
 use Rattle.held.specs.declared.Visit.{Visit as Look}
 use Rattle.held.specs.Held.{Looking, argsIn, factsIn, knownIn, visitIn}
 use Rattle.held.proofs.Visits.{args-are}
-use Rattle.layout.specs.Read.{float-is}
+use Rattle.layout.proofs.Read.{float-is}
 
 module _ (s ws : List ℕ) (v : Look) where
   pub code-is : visitIn s ws v .code ≡ moduleOf s

@@ -11,7 +11,8 @@ use Rattle.masks.specs.declared.Mask.{Mask}
 use Rattle.masks.specs.Mask.{of, union, same}
 use Rattle.masks.specs.Names.{NONE}
 use Rattle.cells.specs.declared.Cell.{Cell}
-use Rattle.words.specs.Layout.{cellAt, decode, off-is, extentOf, ownedOf, originOf, predicateOf}
+use Rattle.words.specs.Layout.{cellAt, decode, extentOf, ownedOf, originOf, predicateOf}
+use Rattle.words.proofs.Cells.{off-is}
 use Rattle.words.specs.Rows.{Outside}
 use Rattle.words.proofs.RowLaws.{outside-trans, outside-widen}
 use Rattle.definition.specs.Module.{row, moduleOf}

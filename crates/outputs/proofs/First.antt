@@ -29,13 +29,15 @@ use Rattle.layout.specs.declared.Chunk.{Chunk as ChunkNumbers}
 use Rattle.layout.specs.declared.Tables.{Tables}
 use Rattle.layout.specs.Layout.{resultAt, localAt}
 use Rattle.layout.specs.Indexed.{tablesOf, chunkAt, noNative}
-use Rattle.layout.specs.Read.{locals-is, slots-are, natives-are, float-is}
+use Rattle.layout.proofs.Read.{locals-is, slots-are, natives-are, float-is}
 use Rattle.held.specs.declared.Visit.{Visit as Look}
 use Rattle.held.specs.Held.{Looking, argsIn, factsIn, visitIn}
 use Rattle.held.proofs.Visits.{args-are}
-use Rattle.making.specs.Making.{nativeBy, native-by}
-use Rattle.made.specs.Made.{secondBy, restBy, outputs-by}
-use Rattle.made.specs.Made.{first-local as first-named}
+use Rattle.making.specs.Making.{nativeBy}
+use Rattle.making.proofs.Making.{native-by}
+use Rattle.made.specs.Made.{secondBy, restBy}
+use Rattle.made.proofs.Made.{outputs-by}
+use Rattle.made.proofs.Made.{first-local as first-named}
 use Rattle.looking.proofs.Parts.{code-is, facts-are, ins-is, rule-is}
 use Rattle.ruled.proofs.Told.{namesSlots, makes-slots}
 use Rattle.ruled.proofs.Faults.{always-parts, named-end}

@@ -25,8 +25,8 @@ use Rattle.goodform.proofs.Each.{row-at}
 use Rattle.layout.specs.declared.Chunk.{Chunk as ChunkNumbers}
 use Rattle.layout.specs.Layout.{resultAt, localAt}
 use Rattle.layout.specs.Indexed.{chunkAt, suspendsAt}
-use Rattle.layout.specs.Apart.{local-in}
-use Rattle.layout.specs.Read.{field-small, stack-is, locals-is, site-is}
+use Rattle.layout.proofs.Apart.{local-in}
+use Rattle.layout.proofs.Read.{field-small, stack-is, locals-is, site-is}
 use Rattle.held.specs.declared.Visit.{Visit as Look}
 use Rattle.held.specs.Held.{Looking, knownIn, factsIn, stateOf, visitIn}
 use Rattle.ruled.proofs.Told.{makes-local, makes-reply, makes-result, sets-local, yields, call-is, call-callee}

@@ -12,7 +12,8 @@ use lib.ListN.{length, getD, set}
 use lib.Seq.{set-getD}
 use Rattle.words.specs.Rows.{Outside}
 use Rattle.ring.specs.declared.Queue.{Queue}
-use Rattle.ring.specs.Ring.{queueOf, pushed, grown, entries-push, push-below}
+use Rattle.ring.specs.Ring.{queueOf, pushed, grown}
+use Rattle.ring.proofs.Ring.{entries-push, push-below}
 use Rattle.definition.specs.Res.{Res, ok, bind}
 use Rattle.definition.specs.Machine.{Work, push, putAt, putIn, put, puts}
 use Rattle.definition.specs.Module.{Module, moduleOf}
@@ -22,15 +23,15 @@ use Rattle.layout.specs.declared.Chunk.{Chunk}
 use Rattle.layout.specs.declared.Tables.{Tables}
 use Rattle.layout.specs.Layout.{numbersAt, slotAt, rowAt}
 use Rattle.layout.specs.Indexed.{tablesOf}
-use Rattle.layout.specs.Read.{Row, row-known, stack-is, locals-is}
-use Rattle.layout.specs.Apart.{by-order, rows-begin, row-apart, row-other, row-in}
+use Rattle.layout.proofs.Read.{Row, row-known, stack-is, locals-is}
+use Rattle.layout.proofs.Apart.{by-order, rows-begin, row-apart, row-other, row-in}
 use Rattle.layout.proofs.Kept.{Steady, Free, row-free}
 use Rattle.rows.specs.declared.joining.Leaving.{Leaving}
 use Rattle.rows.specs.declared.joining.Way.{Way}
 use Rattle.rows.specs.declared.joining.Met.{Met}
 use Rattle.rows.specs.declared.joining.Met.the-variants.{Same, Changed, Unequal}
 use Rattle.rows.specs.Leave.{Ready, leavesAs, stateIn, metState, metHow, metWord, rowWords}
-use Rattle.rows.specs.Met.{metPut, put-met, same-stays, state-wide, leaves-wide}
+use Rattle.rows.proofs.Joined.{metPut, put-met, same-stays, state-wide, leaves-wide}
 use Rattle.held.specs.declared.Visit.{Visit}
 use Rattle.course.specs.Course.{statesIn, roomIn, workIn, Low, Queued, RowsOnly}
 use Rattle.course.proofs.Rows.{stateAt, SameRow, states-length, states-at, states-set, low-set, rows-only-trans}

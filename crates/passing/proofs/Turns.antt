@@ -22,8 +22,8 @@ use Rattle.layout.specs.declared.Chunk.{Chunk}
 use Rattle.layout.specs.declared.Tables.{Tables}
 use Rattle.layout.specs.Layout.{rowAt}
 use Rattle.layout.specs.Indexed.{tablesOf, chunkAt}
-use Rattle.layout.specs.Read.{Row, row-known, count-is, stack-is, locals-is}
-use Rattle.layout.specs.Apart.{by-order, row-apart}
+use Rattle.layout.proofs.Read.{Row, row-known, count-is, stack-is, locals-is}
+use Rattle.layout.proofs.Apart.{by-order, row-apart}
 use Rattle.keep.specs.Arrive.{nowhere}
 use Rattle.rows.specs.declared.joining.Leaving.{Leaving}
 use Rattle.rows.specs.Leave.{Ready, rowWords}

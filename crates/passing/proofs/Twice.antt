@@ -28,8 +28,8 @@ use Rattle.goodform.specs.Good.{chunkNo, rowCells, wordsOf}
 use Rattle.layout.specs.declared.Chunk.{Chunk}
 use Rattle.layout.specs.declared.Tables.{Tables}
 use Rattle.layout.specs.Layout.{rowAt}
-use Rattle.layout.specs.Read.{stack-is, locals-is}
-use Rattle.layout.specs.Apart.{areas-behind, result-begins, result-next, row-apart, row-in}
+use Rattle.layout.proofs.Read.{stack-is, locals-is}
+use Rattle.layout.proofs.Apart.{areas-behind, result-begins, result-next, row-apart, row-in}
 use Rattle.layout.proofs.Kept.{indexed-steady, chunk-steady}
 use Rattle.rows.specs.declared.joining.Leaving.{Leaving}
 use Rattle.rows.specs.Leave.{leavesKept, leavesReset, leavesAs}

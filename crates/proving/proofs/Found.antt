@@ -21,7 +21,7 @@ use Rattle.definition.specs.Wants.{require, meet, atIndex, writeCheck, operandC
 use Rattle.layout.specs.Layout.{placeAt}
 use Rattle.held.specs.declared.Visit.{Visit as Look}
 use Rattle.held.specs.Held.{Looking, Standing, factsIn, visitIn}
-use Rattle.layout.specs.Read.{row-small}
+use Rattle.layout.proofs.Read.{row-small}
 use Rattle.held.proofs.Visits.{below-long, looking-standing}
 use Rattle.looking.proofs.Parts.{code-is, facts-are, ins-is, rule-is}
 use Rattle.proving.specs.Proving.{placesBy, foundBy, foundIn}

@@ -22,8 +22,9 @@ use Rattle.definition.specs.Start.{isSite}
 use Rattle.goodform.specs.Good.{chunkNo, lineNo}
 use Rattle.layout.specs.declared.Chunk.{Chunk as ChunkNumbers}
 use Rattle.layout.specs.Indexed.{chunkAt}
-use Rattle.layout.specs.Read.{place-small, field-small, place-is, declared-is, site-is}
-use Rattle.wants.specs.Wants.{wantBy, endsKinds, declaredMask, want-by-case}
+use Rattle.layout.proofs.Read.{place-small, field-small, place-is, declared-is, site-is}
+use Rattle.wants.specs.Wants.{wantBy}
+use Rattle.wants.proofs.Wants.{endsKinds, declaredMask, want-by-case}
 use Rattle.held.specs.declared.Visit.{Visit as Look}
 use Rattle.held.specs.Held.{Looking, argsIn, visitIn}
 use Rattle.held.proofs.Visits.{args-are}

@@ -1,1 +1,3 @@
 pub mod Guards
+pub mod Values
+pub mod Writes

@@ -1,10 +1,8 @@
 -- Refusals 1 to 4, then 5: a workspace under W + 1 words.
 use Prim.Native.Nat.{ℕ}
-use mathlib.Core.Path.{_≡_}
 use mathlib.Core.Bool.{cond}
 use mathlib.Core.List.{List}
 use lib.Dec.{leb}
-use Rattle.answers.specs.declared.Refusal.{Refusal}
 use Rattle.definition.specs.declared.Form.{Form}
 use Rattle.definition.specs.declared.Form.the-variants.{Fine, Refused}
 use Rattle.definition.specs.Form.{formOf, nowhere}
@@ -18,12 +16,3 @@ roomBy (Fine w) words = withRoom w words
 
 unfoldable pub roomOf : List ℕ → ℕ → Form
 roomOf s words = roomBy (formOf s) words
-
--- what the code's two cases come to
-pub room-turned : (s : List ℕ) (words : ℕ) (r : Refusal) → formOf s ≡ Refused r → Refused r ≡ roomOf s words
-unfolding roomOf roomBy
-room-turned s words r e = rw e
-
-pub room-went : (s : List ℕ) (words w : ℕ) → formOf s ≡ Fine w → withRoom w words ≡ roomOf s words
-unfolding roomOf roomBy
-room-went s words w e = rw e

@@ -28,7 +28,8 @@ use Rattle.taking.specs.declared.Step.the-variants.{Stop as Halted}
 use Rattle.taking.specs.Took.{Took}
 use Rattle.taking.proofs.Steps.{due-there}
 use Rattle.running.specs.declared.Ran.the-variants.{Done as Finished, Stop as Refused}
-use Rattle.running.specs.Turns.{nextOf, settledOf, runFrom, onNextOf, next-stops, next-goes, settled-due, settled-none, run-turn, run-spent}
+use Rattle.running.specs.Turns.{nextOf, settledOf, runFrom}
+use Rattle.running.proofs.Turns.{onNextOf, next-stops, next-goes, settled-due, settled-none, run-turn, run-spent}
 use Rattle.running.specs.Running.{SettledAs, Turned, ranIn, EndedBy, RanOn, RanAs}
 
 -- ---- settled

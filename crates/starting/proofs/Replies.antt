@@ -19,7 +19,7 @@ use Rattle.goodform.specs.Good.{Good, noChunk, noShape, chunkNo, lineNo}
 use Rattle.layout.specs.declared.Tables.{Tables}
 use Rattle.layout.specs.declared.Chunk.{Chunk as ChunkNumbers}
 use Rattle.layout.specs.Indexed.{Indexed, tablesOf, chunkPlace, chunkAt}
-use Rattle.layout.specs.Read.{count-is, params-is, field-small, site-is, chunks-are, entry-is}
+use Rattle.layout.proofs.Read.{count-is, params-is, field-small, site-is, chunks-are, entry-is}
 
 -- ---- the numbers of the tables
 pub owns-is : (s : List ℕ) (t : Tables) → t ≡ tablesOf s → t .owns ≡ moduleOf s .owns

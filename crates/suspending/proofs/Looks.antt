@@ -19,8 +19,8 @@ use Rattle.goodform.specs.Good.{noChunk, chunkNo, lineNo}
 use Rattle.layout.specs.declared.Chunk.{Chunk as ChunkNumbers}
 use Rattle.layout.specs.Layout.{numbersAt}
 use Rattle.layout.specs.Indexed.{Indexed, suspendsAt, chunkAt}
-use Rattle.layout.specs.Apart.{numbers-in}
-use Rattle.layout.specs.Read.{count-is}
+use Rattle.layout.proofs.Apart.{numbers-in}
+use Rattle.layout.proofs.Read.{count-is}
 use Rattle.layout.proofs.Kept.{indexed-keep, kept-trans, kept-suspends, steady-refl}
 use Rattle.course.proofs.Rows.{row-set}
 use Rattle.masks.proofs.Both.{neither}

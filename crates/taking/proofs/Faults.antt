@@ -17,7 +17,8 @@ use Rattle.layout.specs.Indexed.{tablesOf, chunkAt}
 use Rattle.held.specs.declared.Visit.{Visit as Look}
 use Rattle.held.specs.Held.{knownIn, Looking, visitIn}
 use Rattle.held.proofs.Visits.{below-long}
-use Rattle.taking.specs.Alike.{isResets, after-high}
+use Rattle.taking.specs.Alike.{isResets}
+use Rattle.taking.proofs.Alike.{after-high}
 use Rattle.taking.specs.Taking.{first, faultOf}
 use Rattle.taking.proofs.Frames.{ins-is, rule-is, stack-is}
 

@@ -8,7 +8,8 @@ use mathlib.Core.List.{List}
 use lib.ListN.{length, getD}
 use Rattle.answers.specs.declared.Refusal.{Refusal}
 use Rattle.ring.specs.declared.Queue.{Queue}
-use Rattle.ring.specs.Ring.{Ready, capOf, entryAt, dueOf, poppedOf, queueOf, entries-pop, ready-pop}
+use Rattle.ring.specs.Ring.{Ready, capOf, entryAt, dueOf, poppedOf, queueOf}
+use Rattle.ring.proofs.Ring.{entries-pop, ready-pop}
 use Rattle.definition.specs.Res.{bad}
 use Rattle.definition.specs.Machine.{refusal, visit, visitAt, adds}
 use Rattle.definition.specs.Module.{moduleOf}
@@ -22,7 +23,7 @@ use Rattle.layout.specs.declared.Chunk.{Chunk}
 use Rattle.layout.specs.declared.Tables.{Tables}
 use Rattle.layout.specs.Layout.{rowAt}
 use Rattle.layout.specs.Indexed.{Indexed, tablesOf, chunkAt}
-use Rattle.layout.specs.Read.{Row, row-known, count-is, stack-is}
+use Rattle.layout.proofs.Read.{Row, row-known, count-is, stack-is}
 use Rattle.layout.proofs.Kept.{chunk-steady, steady-refl}
 use Rattle.rows.specs.declared.joining.Leaving.{Leaving}
 use Rattle.rows.specs.Leave.{stateBy, stateIn}
@@ -41,8 +42,10 @@ use Rattle.goodform.proofs.Tests.{ne-pos}
 use Rattle.ruled.proofs.Faults.{low-enough}
 use Rattle.taking.specs.declared.Step.{Step}
 use Rattle.taking.specs.declared.Step.the-variants.{Go, Stop}
-use Rattle.taking.specs.Alike.{Alike, after-high}
-use Rattle.taking.specs.Taking.{addsOf, takingOf, faultOf, taking-faulty}
+use Rattle.taking.specs.Alike.{Alike}
+use Rattle.taking.proofs.Alike.{after-high}
+use Rattle.taking.specs.Taking.{addsOf, takingOf, faultOf}
+use Rattle.taking.proofs.Taking.{taking-faulty}
 use Rattle.taking.proofs.Frames.{looking-facts}
 use Rattle.taking.proofs.Frames.{stack-is as row-stack}
 use Rattle.taking.proofs.Taken.{stops, goes, still-between, past-stays, long-stays}

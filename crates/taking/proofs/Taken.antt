@@ -24,8 +24,10 @@ use Rattle.course.proofs.Rows.{row-same, past-kept, low-before-kept}
 use Rattle.course.proofs.Stays.{rows-live, rows-prepared, facts-prepared, facts-states, facts-low}
 use Rattle.course.proofs.Queues.{queue-kept}
 use Rattle.passing.specs.Passing.{waysIn}
-use Rattle.taking.specs.Alike.{Alike, ways-alike}
-use Rattle.taking.specs.Taking.{addsOf, takingOf, faultOf, taking-stops, taking-goes}
+use Rattle.taking.specs.Alike.{Alike}
+use Rattle.taking.proofs.Alike.{ways-alike}
+use Rattle.taking.specs.Taking.{addsOf, takingOf, faultOf}
+use Rattle.taking.proofs.Taking.{taking-stops, taking-goes}
 use Rattle.taking.proofs.Frames.{looking-facts, alike-facts}
 
 -- ---- after a write to the facts

@@ -1,3 +1,2 @@
 pub mod Guard
-pub mod Table
 pub mod Told

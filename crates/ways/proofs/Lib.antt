@@ -1,1 +1,2 @@
 pub mod Still
+pub mod Leaving

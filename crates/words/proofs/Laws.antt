@@ -26,7 +26,8 @@ use Rattle.flows.specs.declared.Predicate.{Predicate}
 use Rattle.flows.specs.declared.Predicate.the-variants.{Nothing as Untested, Tests}
 use Rattle.flows.specs.Flow.{absent, noFlow}
 use Rattle.cells.specs.declared.Cell.{Cell}
-use Rattle.words.specs.Layout.{widthOf, extentOf, ownedOf, originOf, predicateOf, twoOf, threeOfBody, ownedBits, originWords, predicateWords, encode, decode, off-is, cellAt, putN, putCell, copyN, sameN, flowAt, plainAt, decode-eq, Fit}
+use Rattle.words.specs.Layout.{widthOf, extentOf, ownedOf, originOf, predicateOf, twoOf, threeOfBody, ownedBits, originWords, predicateWords, encode, decode, cellAt, putN, putCell, copyN, sameN, flowAt, plainAt, Fit}
+use Rattle.words.proofs.Cells.{off-is, decode-eq}
 
 origin-fit : (tag n : ℕ) → originWords (originOf tag n) .1 < 65536
 origin-fit tag n = go (eqb tag 0)

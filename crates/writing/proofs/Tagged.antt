@@ -15,8 +15,8 @@ use Rattle.held.specs.Held.{factsIn}
 use Rattle.course.specs.Course.{knownAs}
 use Rattle.measuring.specs.Adds.{recordAt, inspectionAt, branchAt, addedFor}
 use Rattle.telling.specs.Told.{recorded, falseIn, decidedIn, wayIn}
-use Rattle.measuring.specs.Beside.{inspection-told, branch-told}
-use Rattle.measuring.specs.Measured.{added-none}
+use Rattle.measuring.proofs.Beside.{inspection-told, branch-told}
+use Rattle.measuring.proofs.Measured.{added-none}
 
 module _ (s ws : List ℕ) (c i : ℕ) (number : chunkNo (moduleOf s) c .number ≡ c) (row : ℕ) (e : row ≡ rowAt (moduleOf s) c i) (op : ℕ)
     (o : op ≡ lineNo (chunkNo (moduleOf s) c) i .instr .op) (tag : ℕ) where

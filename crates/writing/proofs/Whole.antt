@@ -10,11 +10,13 @@ use Rattle.definition.specs.Report.{field, slotBytes, reportBytes}
 use Rattle.layout.specs.declared.Tables.{Tables}
 use Rattle.layout.specs.Layout.{areaOf}
 use Rattle.layout.specs.Indexed.{Indexed, tablesOf}
-use Rattle.layout.specs.Apart.{area-in}
-use Rattle.layout.specs.Read.{chunks-are, slots-are, slot-is, signatures-are}
+use Rattle.layout.proofs.Apart.{area-in}
+use Rattle.layout.proofs.Read.{chunks-are, slots-are, slot-is, signatures-are}
 use Rattle.measuring.specs.Reporting.{reportIn}
-use Rattle.measuring.specs.Span.{span, span-same}
-use Rattle.measuring.specs.Adds.{bareAt, signatureAt, privateAt, chunksFor, report-added}
+use Rattle.measuring.specs.Span.{span}
+use Rattle.measuring.proofs.Span.{span-same}
+use Rattle.measuring.specs.Adds.{bareAt, signatureAt, chunksFor}
+use Rattle.measuring.proofs.Adds.{privateAt, report-added}
 use Rattle.recording.specs.Writes.{slotFrom}
 
 module _ (s ws : List ℕ) (t : Tables) (e : t ≡ tablesOf s) where

@@ -1,6 +1,6 @@
 -- `admitting::admitted` meets its contract.
 use denote.Ref.{now}
-use Rattle.layout.specs.Read.{chunks-are}
+use Rattle.layout.proofs.Read.{chunks-are}
 use Rattle.admitting.proofs.Chunks.{stands, turn-next, turn-stop, turn-end}
 use Rattle.definition.specs.Start.{admitted}
 use Rattle.definition.specs.Module.{moduleOf}

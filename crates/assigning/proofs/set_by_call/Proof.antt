@@ -4,7 +4,7 @@ use mathlib.Core.Path.{refl}
 use mathlib.Core.Bool.{true, false}
 use denote.Ref.{now}
 use Rattle.definition.specs.Module.{moduleOf}
-use Rattle.layout.specs.Apart.{reply-in}
+use Rattle.layout.proofs.Apart.{reply-in}
 use Rattle.assigning.proofs.Set.{set-first, set-none, set-call}
 use borrow.Author.Needs.{needs}
 use Rattle.assigning.proofs.set_by_call.Statement.{statement}

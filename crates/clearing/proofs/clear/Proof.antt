@@ -3,7 +3,8 @@ use native.Mathlib.Omega.{arith}
 use mathlib.Core.Path.{_≡_}
 use lib.ListN.{length, length-set}
 use borrow.Author.Needs.{needs}
-use Rattle.clearing.specs.Clearing.{cleared, cleared-none, cleared-more}
+use Rattle.clearing.specs.Clearing.{cleared}
+use Rattle.clearing.proofs.Clearing.{cleared-none, cleared-more}
 use Rattle.clearing.proofs.clear.Statement.{statement}
 use Rattle.clearing.proofs.clear.Tie as tie
 

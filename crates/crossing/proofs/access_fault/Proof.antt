@@ -4,7 +4,7 @@ use native.Mathlib.Omega.{arith}
 use mathlib.Core.Path.{sym, _∙_}
 use borrow.Author.Tests.{lt-ltb, le-ltb}
 use Rattle.definition.specs.Module.{moduleOf}
-use Rattle.layout.specs.Read.{slots-are}
+use Rattle.layout.proofs.Read.{slots-are}
 use Rattle.slots.specs.Slots.{accessFault}
 use borrow.Author.Needs.{needs}
 use Rattle.crossing.proofs.access_fault.Statement.{statement}

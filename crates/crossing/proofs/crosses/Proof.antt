@@ -2,7 +2,7 @@
 use denote.Ref.{now}
 use mathlib.Core.Path.{_∙_}
 use Rattle.definition.specs.Module.{moduleOf}
-use Rattle.layout.specs.Read.{shared-are}
+use Rattle.layout.proofs.Read.{shared-are}
 use Rattle.slots.proofs.Faults.{crossed-all, crossed-not}
 use borrow.Author.Needs.{needs}
 use Rattle.crossing.proofs.crosses.Statement.{statement}

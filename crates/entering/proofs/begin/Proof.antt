@@ -1,7 +1,7 @@
 -- `begin` meets its contract: what its four writers leave is the machine that enters the chunk.
 use mathlib.Core.Path.{_∙_}
 use borrow.Author.Needs.{needs}
-use Rattle.entering.specs.Began.{rows-there, first-locals-there, first-row-there, queue-there, began}
+use Rattle.entering.proofs.Began.{rows-there, first-locals-there, first-row-there, queue-there, began}
 use Rattle.entering.proofs.begin.Statement.{statement}
 use Rattle.entering.proofs.begin.Tie as tie
 

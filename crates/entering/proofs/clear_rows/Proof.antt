@@ -2,7 +2,8 @@
 use Prim.Native.Nat.{_-_, _≤_}
 use native.Mathlib.Omega.{arith}
 use mathlib.Core.Path.{_≡_}
-use Rattle.entering.specs.Rows.{Cleared, cleared-none, cleared-more}
+use Rattle.entering.specs.Rows.{Cleared}
+use Rattle.entering.proofs.Rows.{cleared-none, cleared-more}
 use Rattle.entering.proofs.clear_rows.Statement.{statement}
 use Rattle.entering.proofs.clear_rows.Tie as tie
 

@@ -1,7 +1,7 @@
 -- `first_local` meets its contract, by a copy or by a store.
 use native.Mathlib.Omega.{arith}
 use borrow.Author.Needs.{needs}
-use Rattle.entering.specs.Rows.{filled-copy, filled-unit}
+use Rattle.entering.proofs.Rows.{filled-copy, filled-unit}
 use Rattle.entering.proofs.first_local.Statement.{statement}
 use Rattle.entering.proofs.first_local.Tie as tie
 

@@ -2,7 +2,8 @@
 use Prim.Native.Nat.{_-_, _≤_}
 use native.Mathlib.Omega.{arith}
 use mathlib.Core.Path.{_≡_}
-use Rattle.entering.specs.Rows.{Filled, filled-none, filled-more, locals-there}
+use Rattle.entering.specs.Rows.{Filled}
+use Rattle.entering.proofs.Rows.{filled-none, filled-more, locals-there}
 use Rattle.entering.proofs.first_locals.Statement.{statement}
 use Rattle.entering.proofs.first_locals.Tie as tie
 

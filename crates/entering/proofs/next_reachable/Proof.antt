@@ -2,8 +2,8 @@
 use Prim.Native.Nat.{_-_, _≤_}
 use native.Mathlib.Omega.{arith}
 use borrow.Author.Tests.{ltb-true}
-use Rattle.layout.specs.Read.{chunks-are}
-use Rattle.entering.specs.Reach.{Skipped, skip-one, found-here, found-none}
+use Rattle.layout.proofs.Read.{chunks-are}
+use Rattle.entering.proofs.Reach.{Skipped, skip-one, found-here, found-none}
 use Rattle.entering.proofs.next_reachable.Statement.{statement}
 use Rattle.entering.proofs.next_reachable.Tie as tie
 

@@ -4,7 +4,7 @@ use native.Mathlib.Omega.{arith}
 use lib.ListN.{length}
 use Rattle.definition.specs.Module.{moduleOf}
 use borrow.Author.Needs.{needs}
-use Rattle.layout.specs.Read.{chunks-are}
+use Rattle.layout.proofs.Read.{chunks-are}
 use Rattle.entering.proofs.Rounds.{low-all, opens, opens-none}
 use Rattle.entering.proofs.open_round.Statement.{statement}
 use Rattle.entering.proofs.open_round.Tie as tie

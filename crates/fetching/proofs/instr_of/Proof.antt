@@ -2,7 +2,7 @@
 use mathlib.Core.Path.{sym, ap, _∙_}
 use Rattle.description.specs.Fields.{instrOf}
 use denote.Ref.{now}
-use Rattle.layout.specs.Read.{row-known, field-small, instr-is}
+use Rattle.layout.proofs.Read.{row-known, field-small, instr-is}
 use native.Mathlib.Omega.{arith}
 use Rattle.fetching.proofs.instr_of.Statement.{statement}
 use Rattle.fetching.proofs.instr_of.Tie as tie

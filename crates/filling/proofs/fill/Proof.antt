@@ -5,7 +5,7 @@ use Rattle.filling.proofs.fill.Statement.{statement}
 use Rattle.filling.proofs.fill.Tie as tie
 use Rattle.filling.proofs.fill.Reads as reads
 use Rattle.filling.proofs.fill.Lts as lts
-use Rattle.clearing.specs.Clearing.{cleared-zero}
+use Rattle.clearing.proofs.Clearing.{cleared-zero}
 use Rattle.clearing.proofs.clear.Reads as clear-reads
 use Rattle.filling.proofs.walk.Reads as walk-reads
 use Rattle.heads.proofs.header_at.Reads as header-at-reads

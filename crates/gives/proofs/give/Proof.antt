@@ -17,8 +17,8 @@ use Rattle.ops.specs.declared.Acts.{Acts}
 use Rattle.ops.proofs.Acts.{the-type as actsType}
 use Rattle.gives.proofs.Cells.{result-taken}
 use Rattle.held.proofs.Visits.{looking-standing}
-use Rattle.layout.specs.Read.{result-is}
-use Rattle.layout.specs.Apart.{result-in}
+use Rattle.layout.proofs.Read.{result-is}
+use Rattle.layout.proofs.Apart.{result-in}
 use Rattle.definition.specs.Leaves.{givesBy}
 use Rattle.definition.specs.Module.{moduleOf}
 use Rattle.gives.proofs.give.Statement.{statement}

@@ -6,7 +6,7 @@ use denote.Ref.{now}
 use Rattle.gives.proofs.Gifts.{callee-there, callee-takes, inputs-places, args-taken}
 use Rattle.gives.proofs.Cells.{signed, arguments-taken}
 use Rattle.held.proofs.Visits.{looking-standing}
-use Rattle.layout.specs.Read.{input-is}
+use Rattle.layout.proofs.Read.{input-is}
 use Rattle.gives.proofs.give_arguments.Statement.{statement}
 use Rattle.gives.proofs.give_arguments.Tie as tie
 

@@ -13,7 +13,7 @@ use Rattle.course.specs.Course.{FactsOnly}
 use Rattle.held.proofs.Visits.{looking-standing}
 use Rattle.held.specs.Held.{liveIn}
 use Rattle.layout.proofs.Kept.{indexed-steady}
-use Rattle.layout.specs.Read.{slots-are}
+use Rattle.layout.proofs.Read.{slots-are}
 use Rattle.definition.specs.Leaves.{absorb, writeSlots}
 use Rattle.definition.specs.Module.{row, moduleOf}
 use Rattle.cells.specs.declared.Cell.{Cell}

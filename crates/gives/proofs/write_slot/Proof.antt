@@ -7,7 +7,7 @@ use borrow.Author.Needs.{needs}
 use denote.Ref.{now}
 use Rattle.definition.specs.Module.{moduleOf}
 use Rattle.gives.proofs.Slots.{body-taken, private-taken, shared-taken}
-use Rattle.layout.specs.Read.{shared-are, slot-known}
+use Rattle.layout.proofs.Read.{shared-are, slot-known}
 use Rattle.gives.proofs.write_slot.Statement.{statement}
 use Rattle.gives.proofs.write_slot.Tie as tie
 

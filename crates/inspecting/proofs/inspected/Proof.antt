@@ -4,8 +4,8 @@ use native.Mathlib.Omega.{arith}
 use lib.ListN.{length}
 use Rattle.definition.specs.Module.{moduleOf}
 use Rattle.goodform.specs.Good.{chunkNo}
-use Rattle.layout.specs.Read.{count-is, row-known}
-use Rattle.inspecting.specs.Fault.{FaultFrom, fault-start, fault-next, fault-found, fault-end, row-read, fault-of}
+use Rattle.layout.proofs.Read.{count-is, row-known}
+use Rattle.inspecting.proofs.Fault.{FaultFrom, fault-start, fault-next, fault-found, fault-end, row-read, fault-of}
 use Rattle.inspecting.proofs.inspected.Statement.{statement}
 use Rattle.inspecting.proofs.inspected.Tie as tie
 

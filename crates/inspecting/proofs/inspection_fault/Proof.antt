@@ -5,7 +5,8 @@ use mathlib.Core.Path.{ap, _∙_}
 use Rattle.words.specs.Layout.{cellAt}
 use Rattle.layout.specs.Layout.{placeAt}
 use borrow.Author.Needs.{needs}
-use Rattle.inspecting.specs.Fault.{receiverFault, stack-high, fault-none, fault-read}
+use Rattle.inspecting.specs.Fault.{receiverFault}
+use Rattle.inspecting.proofs.Fault.{stack-high, fault-none, fault-read}
 use Rattle.inspecting.proofs.inspection_fault.Statement.{statement}
 use Rattle.inspecting.proofs.inspection_fault.Tie as tie
 

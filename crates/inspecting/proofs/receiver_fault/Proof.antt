@@ -3,7 +3,7 @@ use mathlib.Core.Path.{ap, _∙_}
 use mathlib.Core.Bool.{true, false}
 use borrow.Author.Needs.{needs}
 use Rattle.definition.specs.Start.{underEight}
-use Rattle.inspecting.specs.Fault.{fault-struct, fault-enum}
+use Rattle.inspecting.proofs.Fault.{fault-struct, fault-enum}
 use Rattle.inspecting.proofs.receiver_fault.Statement.{statement}
 use Rattle.inspecting.proofs.receiver_fault.Tie as tie
 

@@ -2,7 +2,7 @@
 use denote.Ref.{now}
 use native.Mathlib.Omega.{arith}
 use mathlib.Core.Path.{sym, ap, _∙_}
-use Rattle.layout.specs.Read.{native-small, native-is}
+use Rattle.layout.proofs.Read.{native-small, native-is}
 use Rattle.definition.specs.Module.{Native, nativeOf}
 use Rattle.listed.proofs.native_shape.Statement.{statement}
 use Rattle.listed.proofs.native_shape.Tie as tie

@@ -2,7 +2,7 @@
 use denote.Ref.{now}
 use native.Mathlib.Omega.{arith}
 use mathlib.Core.Path.{sym, ap, _∙_}
-use Rattle.layout.specs.Read.{place-small, param-is}
+use Rattle.layout.proofs.Read.{place-small, param-is}
 use Rattle.description.specs.Fields.{paramOf}
 use Prim.Native.Nat.{ℕ}
 use Rattle.listed.proofs.param_of.Statement.{statement}

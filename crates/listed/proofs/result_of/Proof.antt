@@ -2,7 +2,7 @@
 use denote.Ref.{now}
 use native.Mathlib.Omega.{arith}
 use mathlib.Core.Path.{sym, ap, _∙_}
-use Rattle.layout.specs.Read.{place-small, declared-is}
+use Rattle.layout.proofs.Read.{place-small, declared-is}
 use Rattle.description.specs.Fields.{resultOf}
 use Rattle.listed.proofs.result_of.Statement.{statement}
 use Rattle.listed.proofs.result_of.Tie as tie

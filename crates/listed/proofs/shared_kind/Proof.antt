@@ -2,7 +2,7 @@
 use denote.Ref.{now}
 use native.Mathlib.Omega.{arith}
 use mathlib.Core.Path.{sym, _∙_}
-use Rattle.layout.specs.Read.{shared-small, shared-is}
+use Rattle.layout.proofs.Read.{shared-small, shared-is}
 use Rattle.listed.proofs.shared_kind.Statement.{statement}
 use Rattle.listed.proofs.shared_kind.Tie as tie
 

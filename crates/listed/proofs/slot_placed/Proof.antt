@@ -5,7 +5,7 @@ use mathlib.Core.Path.{ap, _∙_}
 use Prim.Native.Nat.{ℕ, _+_}
 use lib.Dec.{ltb}
 use lib.ListN.{getD}
-use Rattle.layout.specs.Read.{slots-are, past-is, slot-known}
+use Rattle.layout.proofs.Read.{slots-are, past-is, slot-known}
 use Rattle.definition.specs.Module.{moduleOf}
 use Rattle.definition.specs.Data.{isBody}
 use Rattle.listed.proofs.slot_placed.Statement.{statement}

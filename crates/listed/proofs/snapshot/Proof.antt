@@ -2,7 +2,7 @@
 use denote.Ref.{now}
 use native.Mathlib.Omega.{arith}
 use mathlib.Core.Path.{sym, ap, _∙_}
-use Rattle.layout.specs.Read.{native-small, native-is}
+use Rattle.layout.proofs.Read.{native-small, native-is}
 use Rattle.definition.specs.Module.{Native, nativeOf}
 use Prim.Native.Nat.{ℕ}
 use lib.Dec.{eqb}

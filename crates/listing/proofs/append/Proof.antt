@@ -1,5 +1,5 @@
 -- `listing::append` meets its contract.
-use Rattle.listing.specs.Laid.{Rest, rest-all, rest-on, rest-none}
+use Rattle.listing.proofs.Laid.{Rest, rest-all, rest-on, rest-none}
 use Rattle.listing.proofs.Turns.{bytes-turn, bytes-end}
 use Prim.Native.Nat.{_-_, _≤_}
 use lib.ListN.{length, drop}

@@ -1,5 +1,5 @@
 -- `listing::digit` meets its contract.
-use Rattle.listing.specs.Laid.{laid-none}
+use Rattle.listing.proofs.Laid.{laid-none}
 use Rattle.listing.specs.Decimal.{digitOf}
 use borrow.Author.Tests.{lt-ltb, le-ltb}
 use borrow.Author.Needs.{needs}

@@ -3,7 +3,7 @@ use Rattle.listing.specs.Listing.{lineAt}
 use Rattle.description.specs.Fields.{tagAt}
 use mathlib.Core.Path.{sym, _∙_}
 use borrow.Author.Tests.{ne-eqb}
-use Rattle.listing.specs.Laid.{laid-none}
+use Rattle.listing.proofs.Laid.{laid-none}
 use borrow.Author.Needs.{needs}
 use Rattle.listing.proofs.line.Statement.{statement}
 use Rattle.listing.proofs.line.Tie as tie

@@ -2,7 +2,7 @@
 use Prim.Native.Nat.{_-_}
 use lib.ListN.{length}
 use native.Mathlib.Omega.{arith}
-use Rattle.listing.specs.Laid.{Rest, rest-all, rest-on, rest-none}
+use Rattle.listing.proofs.Laid.{Rest, rest-all, rest-on, rest-none}
 use Rattle.listing.proofs.Turns.{linesFrom, lines-turn, lines-over, lines-end}
 use Rattle.listing.proofs.lines.Statement.{statement}
 use Rattle.listing.proofs.lines.Tie as tie

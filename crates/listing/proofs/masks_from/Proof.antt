@@ -1,5 +1,5 @@
 -- `listing::masks_from` meets its contract.
-use Rattle.listing.specs.Laid.{Rest, rest-all, rest-on, rest-none}
+use Rattle.listing.proofs.Laid.{Rest, rest-all, rest-on, rest-none}
 use Rattle.listing.specs.Listing.{masksFrom}
 use Rattle.listing.proofs.Turns.{masks-turn, masks-end}
 use Prim.Native.Nat.{_+_, _*_, _^_, _<_}

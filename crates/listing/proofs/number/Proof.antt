@@ -1,5 +1,5 @@
 -- `listing::number` meets its contract.
-use Rattle.listing.specs.Laid.{Rest, rest-all, rest-on, rest-last}
+use Rattle.listing.proofs.Laid.{Rest, rest-all, rest-on, rest-last}
 use Rattle.listing.specs.Decimal.{decimal, digitsFrom}
 use Rattle.listing.proofs.Turns.{digits-turn, digits-end, tenth, ten-up}
 use Prim.Native.Nat.{ℕ, _/_, _^_}

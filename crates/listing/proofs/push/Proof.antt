@@ -1,5 +1,5 @@
 -- `listing::push` meets its contract.
-use Rattle.listing.specs.Laid.{laid-one, laid-past}
+use Rattle.listing.proofs.Laid.{laid-one, laid-past}
 use borrow.Author.Needs.{needs}
 use Rattle.listing.proofs.push.Statement.{statement}
 use Rattle.listing.proofs.push.Tie as tie

@@ -1,5 +1,5 @@
 -- `listing::recorded` meets its contract.
-use Rattle.listing.specs.Laid.{and-on}
+use Rattle.listing.proofs.Laid.{and-on}
 use Rattle.listing.specs.Listing.{recordLine}
 use borrow.Author.Needs.{needs}
 use Rattle.listing.proofs.recorded.Statement.{statement}

@@ -4,7 +4,7 @@ use mathlib.Core.Path.{refl, ap, _∙_}
 use native.Mathlib.Omega.{arith}
 use denote.Ref.{now}
 use lib.ListN.{getD}
-use Rattle.layout.specs.Read.{row-known, stack-is}
+use Rattle.layout.proofs.Read.{row-known, stack-is}
 use borrow.Author.Needs.{needs}
 use Rattle.looking.proofs.visit_at.Statement.{statement}
 use Rattle.looking.proofs.visit_at.Tie as tie

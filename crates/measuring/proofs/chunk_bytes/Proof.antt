@@ -5,9 +5,10 @@ use native.Mathlib.Omega.{arith}
 use borrow.Author.Needs.{needs}
 use mathlib.Core.Path.{_≡_, sym, ap, _∙_}
 use lib.ListN.{length}
-use Rattle.measuring.specs.Span.{span, span-none, long-more}
+use Rattle.measuring.specs.Span.{span}
+use Rattle.measuring.proofs.Span.{span-none, long-more}
 use Rattle.measuring.specs.Adds.{recordable}
-use Rattle.measuring.specs.Here.{count-recordable, counted-here, few-recordable}
+use Rattle.measuring.proofs.Here.{count-recordable, counted-here, few-recordable}
 use Rattle.measuring.specs.Measured.{allFor, allIn}
 use Rattle.measuring.proofs.chunk_bytes.Statement.{statement}
 use Rattle.measuring.proofs.chunk_bytes.Tie as tie

@@ -6,8 +6,8 @@ use mathlib.Core.Path.{sym, ap, _∙_}
 use mathlib.Core.Bool.{Bool, cond}
 use mathlib.Core.Logic.{⊎-elim}
 use borrow.Author.Tests.{not-true, not-false}
-use Rattle.measuring.specs.Here.{row-here, low-here, stands-here, numbers-here, entry-here, asking-here, few-here, none-here, some-here}
-use Rattle.measuring.specs.Measured.{none-added, some-added}
+use Rattle.measuring.proofs.Here.{row-here, low-here, stands-here, numbers-here, entry-here, asking-here, few-here, none-here, some-here}
+use Rattle.measuring.proofs.Measured.{none-added, some-added}
 use Rattle.measuring.proofs.instr_bytes.Statement.{statement}
 use Rattle.measuring.proofs.instr_bytes.Tie as tie
 

@@ -5,10 +5,12 @@ use native.Mathlib.Omega.{arith}
 use mathlib.Core.Path.{_≡_, ap}
 use lib.ListN.{length}
 use Rattle.definition.specs.Module.{moduleOf}
-use Rattle.layout.specs.Read.{chunks-are, slots-are, signatures-are}
-use Rattle.measuring.specs.Span.{span, cut, span-none, long-more}
+use Rattle.layout.proofs.Read.{chunks-are, slots-are, signatures-are}
+use Rattle.measuring.specs.Span.{span, cut}
+use Rattle.measuring.proofs.Span.{span-none, long-more}
 use Rattle.measuring.specs.Adds.{signatureAt}
-use Rattle.measuring.specs.Measured.{allIn, report-long}
+use Rattle.measuring.specs.Measured.{allIn}
+use Rattle.measuring.proofs.Measured.{report-long}
 use Rattle.measuring.proofs.measure.Statement.{statement}
 use Rattle.measuring.proofs.measure.Tie as tie
 

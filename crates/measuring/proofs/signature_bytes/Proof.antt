@@ -3,10 +3,10 @@ use denote.Ref.{now}
 use native.Mathlib.Omega.{arith}
 use mathlib.Core.Path.{sym, ap}
 use lib.ListN.{length}
-use Rattle.layout.specs.Read.{params-is}
-use Rattle.measuring.specs.Span.{cut-in, cut-out}
+use Rattle.layout.proofs.Read.{params-is}
+use Rattle.measuring.proofs.Span.{cut-in, cut-out}
 use Rattle.measuring.specs.Adds.{signatureAt}
-use Rattle.measuring.specs.Long.{signature-long}
+use Rattle.measuring.proofs.Long.{signature-long}
 use borrow.Author.Needs.{needs}
 use Rattle.measuring.proofs.signature_bytes.Statement.{statement}
 use Rattle.measuring.proofs.signature_bytes.Tie as tie

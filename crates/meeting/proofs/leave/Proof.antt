@@ -1,5 +1,5 @@
 -- `meeting::leave` meets its contract: a row of another height stays; else the state arrives, and its height is written.
-use Rattle.rows.specs.Left.{leaves-high, meets-other, meets-level}
+use Rattle.rows.proofs.Left.{leaves-high, meets-other, meets-level}
 use denote.Ref.{now}
 use native.Mathlib.Omega.{arith}
 use borrow.Author.Needs.{needs}

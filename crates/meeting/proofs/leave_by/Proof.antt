@@ -1,5 +1,5 @@
 -- `meeting::leave_by` meets its contract, by whether all else is dropped.
-use Rattle.rows.specs.Left.{leaves-reset, leaves-kept}
+use Rattle.rows.proofs.Left.{leaves-reset, leaves-kept}
 use denote.Ref.{now}
 use borrow.Author.Needs.{needs}
 use Rattle.meeting.proofs.leave_by.Statement.{statement}

@@ -6,7 +6,7 @@ use lib.ListN.{length}
 use denote.Ref.{now}
 use Rattle.definition.specs.Module.{moduleOf}
 use Rattle.merging.proofs.Merge.{Merging, merging-none, merging-more, merging-answer, merging-facts}
-use Rattle.layout.specs.Read.{slots-are, slot-known}
+use Rattle.layout.proofs.Read.{slots-are, slot-known}
 use Rattle.merging.proofs.merge_writes.Statement.{statement}
 use Rattle.merging.proofs.merge_writes.Tie as tie
 

@@ -2,8 +2,8 @@
 use native.Mathlib.Omega.{arith}
 use denote.Ref.{now}
 use Rattle.definition.specs.Module.{moduleOf}
-use Rattle.layout.specs.Read.{result-is}
-use Rattle.layout.specs.Apart.{result-in}
+use Rattle.layout.proofs.Read.{result-is}
+use Rattle.layout.proofs.Apart.{result-in}
 use borrow.Author.Needs.{needs}
 use Rattle.outputs.proofs.result_cell.Statement.{statement}
 use Rattle.outputs.proofs.result_cell.Tie as tie

@@ -4,7 +4,7 @@ use native.Mathlib.Omega.{arith}
 use mathlib.Core.Path.{refl, ap, _∙_}
 use Prim.Native.Nat.{ℕ}
 use Rattle.words.specs.Layout.{cellAt}
-use Rattle.layout.specs.Read.{slots-are}
+use Rattle.layout.proofs.Read.{slots-are}
 use Rattle.held.proofs.Visits.{looking-standing}
 use Rattle.proving.proofs.Fine.{writes-one, writes-many}
 use Rattle.proving.proofs.Found.{place-fits, found-nothing, found-first, found-both, found-every, found-below, found-writes, found-indexed, found-never}

@@ -8,7 +8,7 @@ use Rattle.le.proofs.Laws.{and-then, resize, same-length as same-long}
 use Rattle.putting.proofs.Laws.{said}
 use Rattle.words.specs.Rows.{cellsAt}
 use Rattle.definition.specs.Report.{cellsBytes}
-use Rattle.recording.specs.Writes.{wrote-none, cells-none, cells-more}
+use Rattle.recording.proofs.Writes.{wrote-none, cells-none, cells-more}
 use Rattle.recording.proofs.put_cells.Statement.{statement}
 use Rattle.recording.proofs.put_cells.Tie as tie
 

@@ -1,7 +1,7 @@
 -- `recording::put_counts` meets its contract.
 use Rattle.le.proofs.Laws.{and-then}
 use Rattle.putting.proofs.Laws.{said}
-use Rattle.recording.specs.Writes.{low16}
+use Rattle.recording.proofs.Writes.{low16}
 use borrow.Author.Needs.{needs}
 use Rattle.recording.proofs.put_counts.Statement.{statement}
 use Rattle.recording.proofs.put_counts.Tie as tie

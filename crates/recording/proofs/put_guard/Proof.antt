@@ -8,7 +8,7 @@ use Rattle.putting.proofs.Laws.{said}
 use Rattle.definition.specs.declared.Check.{Check}
 use Rattle.definition.specs.Wants.{guardOf}
 use Rattle.definition.specs.Report.{guardsBytes}
-use Rattle.recording.specs.Writes.{low16, exact, wrote-none}
+use Rattle.recording.proofs.Writes.{low16, exact, wrote-none}
 use Rattle.recording.proofs.Guards.{guard-bytes, guard-long, fine-bytes, unproven-bytes}
 use borrow.Author.Needs.{needs}
 use Rattle.recording.proofs.put_guard.Statement.{statement}

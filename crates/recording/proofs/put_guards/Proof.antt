@@ -15,7 +15,7 @@ use Rattle.proving.specs.declared.Places.{Places}
 use Rattle.proving.specs.Proving.{placesBy}
 use Rattle.proving.proofs.Fine.{below-some}
 use Rattle.measuring.specs.Span.{span}
-use Rattle.recording.specs.Writes.{said-exact, span-start, span-fits, span-turn}
+use Rattle.recording.proofs.Writes.{said-exact, span-start, span-fits, span-turn}
 use Rattle.recording.proofs.Guards.{guardAt, guards-span, places-low, span-stop}
 use Rattle.recording.proofs.put_guards.Statement.{statement}
 use Rattle.recording.proofs.put_guards.Tie as tie

@@ -9,7 +9,7 @@ use Rattle.putting.proofs.Laws.{said}
 use Rattle.definition.specs.Module.{row}
 use Rattle.definition.specs.Outputs.{output}
 use Rattle.definition.specs.Report.{placed, cellBytes, outputsBytes}
-use Rattle.recording.specs.Writes.{wrote-none, low16, outputs-none, outputs-more}
+use Rattle.recording.proofs.Writes.{wrote-none, low16, outputs-none, outputs-more}
 use Rattle.recording.proofs.put_outputs.Statement.{statement}
 use Rattle.recording.proofs.put_outputs.Tie as tie
 

@@ -1,7 +1,7 @@
 -- `recording::put_place` meets its contract.
 use Rattle.le.proofs.Laws.{and-then}
 use Rattle.putting.proofs.Laws.{said}
-use Rattle.recording.specs.Writes.{low16}
+use Rattle.recording.proofs.Writes.{low16}
 use borrow.Author.Needs.{needs}
 use Rattle.recording.proofs.put_place.Statement.{statement}
 use Rattle.recording.proofs.put_place.Tie as tie

@@ -3,9 +3,9 @@ use denote.Ref.{now}
 use native.Mathlib.Omega.{arith}
 use Rattle.le.proofs.Laws.{and-then, same-length as same-long}
 use Rattle.putting.proofs.Laws.{said}
-use Rattle.measuring.specs.Here.{low-here, numbers-here, entry-here, asking-here, few-here}
-use Rattle.recording.specs.Writes.{exact}
-use Rattle.recording.specs.Values.{here-as, small-here, record-made, record-room}
+use Rattle.measuring.proofs.Here.{low-here, numbers-here, entry-here, asking-here, few-here}
+use Rattle.recording.proofs.Writes.{exact}
+use Rattle.recording.proofs.Values.{here-as, small-here, record-made, record-room}
 use borrow.Author.Needs.{needs}
 use Rattle.recording.proofs.put_record.Statement.{statement}
 use Rattle.recording.proofs.put_record.Tie as tie

@@ -8,9 +8,10 @@ use Rattle.definition.specs.declared.Made.{Made}
 use Rattle.definition.specs.Module.{row}
 use Rattle.definition.specs.Outputs.{output}
 use Rattle.definition.specs.Report.{placed, outputsBytes}
-use Rattle.layout.specs.Read.{locals-is}
-use Rattle.recording.specs.Writes.{exact}
-use Rattle.recording.specs.Values.{valuesIn, values-long, values-room, stack-here, locals-here}
+use Rattle.layout.proofs.Read.{locals-is}
+use Rattle.recording.proofs.Writes.{exact}
+use Rattle.recording.specs.Values.{valuesIn}
+use Rattle.recording.proofs.Values.{values-long, values-room, stack-here, locals-here}
 use borrow.Author.Needs.{needs}
 use Rattle.recording.proofs.put_values.Statement.{statement}
 use Rattle.recording.proofs.put_values.Tie as tie

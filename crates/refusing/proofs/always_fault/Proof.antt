@@ -1,5 +1,5 @@
 -- `refusing::always_fault` meets its contract.
-use Rattle.refusing.specs.Never.{always-by}
+use Rattle.refusing.proofs.Never.{always-by}
 use borrow.Author.Needs.{needs}
 use Rattle.refusing.proofs.always_fault.Statement.{statement}
 use Rattle.refusing.proofs.always_fault.Tie as tie

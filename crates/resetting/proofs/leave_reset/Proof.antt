@@ -1,5 +1,5 @@
 -- `resetting::leave_reset` meets its contract: the outputs, then the locals.
-use Rattle.rows.specs.Left.{reset-left}
+use Rattle.rows.proofs.Left.{reset-left}
 use borrow.Author.Needs.{needs}
 use Rattle.resetting.proofs.leave_reset.Statement.{statement}
 use Rattle.resetting.proofs.leave_reset.Tie as tie

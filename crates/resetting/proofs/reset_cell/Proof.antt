@@ -1,5 +1,5 @@
 -- `resetting::reset_cell` meets its contract.
-use Rattle.rows.specs.Left.{reset-at}
+use Rattle.rows.proofs.Left.{reset-at}
 use mathlib.Core.Path.{ap, sym, _∙_}
 use mathlib.Core.Bool.{Bool, cond}
 use Rattle.cells.specs.Cell.{unitCell}

@@ -3,7 +3,8 @@ use mathlib.Core.Path.{refl}
 use denote.Ref.{now}
 use Prim.Native.Nat.{_+_, _-_}
 use lib.ListN.{length}
-use Rattle.ring.specs.Ring.{wrap-lt, pushed}
+use Rattle.ring.specs.Ring.{pushed}
+use Rattle.ring.proofs.Ring.{wrap-lt}
 use borrow.Author.Needs.{needs}
 use Rattle.ring.proofs.push.Statement.{statement}
 use Rattle.ring.proofs.push.Tie as tie

@@ -1,5 +1,5 @@
 use mathlib.Core.Path.{_∙_}
-use Rattle.room.specs.Room.{room-turned, room-went}
+use Rattle.room.proofs.Room.{room-turned, room-went}
 use borrow.Author.Needs.{needs}
 use Rattle.room.proofs.check_room.Statement.{statement}
 use Rattle.room.proofs.check_room.Tie as tie

@@ -1,6 +1,6 @@
 -- `end_round` meets its contract.
 use Rattle.course.proofs.Stays.{facts-prepared}
-use Rattle.settling.specs.Ends.{ends-done, ends-opened}
+use Rattle.settling.proofs.Ends.{ends-done, ends-opened}
 use borrow.Author.Needs.{needs}
 use Rattle.settling.proofs.end_round.Statement.{statement}
 use Rattle.settling.proofs.end_round.Tie as tie

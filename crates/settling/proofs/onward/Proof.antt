@@ -3,8 +3,8 @@ use Prim.Native.Nat.{_<_}
 use native.Mathlib.Omega.{arith}
 use lib.ListN.{length}
 use Rattle.definition.specs.Module.{moduleOf}
-use Rattle.layout.specs.Read.{chunks-are}
-use Rattle.settling.specs.Ends.{goes-due, goes-end, goes-low, goes-ended}
+use Rattle.layout.proofs.Read.{chunks-are}
+use Rattle.settling.proofs.Ends.{goes-due, goes-end, goes-low, goes-ended}
 use borrow.Author.Needs.{needs}
 use Rattle.settling.proofs.onward.Statement.{statement}
 use Rattle.settling.proofs.onward.Tie as tie

@@ -1,5 +1,5 @@
 -- `settle` meets its contract.
-use Rattle.settling.specs.Ends.{settles-rounds, settles-validated, settles-stop}
+use Rattle.settling.proofs.Ends.{settles-rounds, settles-validated, settles-stop}
 use borrow.Author.Needs.{needs}
 use borrow.Author.Tests.{not-true, not-false}
 use Rattle.settling.proofs.settle.Statement.{statement}

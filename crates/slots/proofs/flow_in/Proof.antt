@@ -10,7 +10,7 @@ use Rattle.cells.specs.declared.Cell.{Cell}
 use Rattle.words.specs.Layout.{cellAt}
 use Rattle.definition.specs.Module.{moduleOf}
 use Rattle.definition.specs.Data.{flowIn}
-use Rattle.layout.specs.Read.{slot-known}
+use Rattle.layout.proofs.Read.{slot-known}
 use Rattle.held.specs.Held.{factsIn}
 use Rattle.held.specs.Slots.{listOf}
 use Rattle.slots.proofs.Walk.{from, from-first, flow-turn, flow-end, flow-here}

@@ -5,7 +5,7 @@ use mathlib.Core.Path.{sym, ap, _∙_}
 use Prim.Native.Nat.{ℕ}
 use Rattle.definition.specs.Data.{sharedMask}
 use Rattle.words.specs.Layout.{cellAt}
-use Rattle.layout.specs.Read.{slots-are, shared-are, slot-known}
+use Rattle.layout.proofs.Read.{slots-are, shared-are, slot-known}
 use Rattle.slots.proofs.Walk.{slot-shared, slot-private, slot-past}
 use borrow.Author.Needs.{needs}
 use Rattle.slots.proofs.slot_mask.Statement.{statement}

@@ -1,5 +1,6 @@
 -- `starting::declare` meets its contract.
-use Rattle.starting.specs.Inputs.{DeclaredIn, declared-none, declared-more}
+use Rattle.starting.specs.Inputs.{DeclaredIn}
+use Rattle.starting.proofs.Inputs.{declared-none, declared-more}
 use Rattle.starting.proofs.Replies.{owns-is}
 use Rattle.layout.proofs.Kept.{indexed-steady}
 use Rattle.definition.specs.Module.{moduleOf}
@@ -7,7 +8,7 @@ use mathlib.Core.Path.{_≡_}
 use Prim.Native.Nat.{_≤_, _-_}
 use denote.Ref.{now}
 use native.Mathlib.Omega.{arith}
-use Rattle.layout.specs.Read.{signatures-are}
+use Rattle.layout.proofs.Read.{signatures-are}
 use Rattle.starting.proofs.declare.Statement.{statement}
 use Rattle.starting.proofs.declare.Tie as tie
 

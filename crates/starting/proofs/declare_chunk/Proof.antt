@@ -1,6 +1,6 @@
 -- `starting::declare_chunk` meets its contract.
-use Rattle.starting.specs.Inputs.{result-known, chunk-in}
-use Rattle.layout.specs.Read.{place-is}
+use Rattle.starting.proofs.Inputs.{result-known, chunk-in}
+use Rattle.layout.proofs.Read.{place-is}
 use native.Mathlib.Omega.{arith}
 use borrow.Author.Needs.{needs}
 use Rattle.starting.proofs.declare_chunk.Statement.{statement}

@@ -1,6 +1,7 @@
 -- `starting::declare_inputs` meets its contract.
-use Rattle.starting.specs.Inputs.{InputsIn, inputs-none, input-known, inputs-more}
-use Rattle.layout.specs.Read.{place-is, params-is}
+use Rattle.starting.specs.Inputs.{InputsIn}
+use Rattle.starting.proofs.Inputs.{inputs-none, input-known, inputs-more}
+use Rattle.layout.proofs.Read.{place-is, params-is}
 use Rattle.goodform.specs.Good.{chunkNo}
 use Rattle.definition.specs.Module.{moduleOf}
 use lib.ListN.{length}

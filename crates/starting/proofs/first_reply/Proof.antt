@@ -1,6 +1,6 @@
 -- `starting::first_reply` meets its contract.
 use Rattle.starting.proofs.Replies.{entry-there, reply-param, reply-unit}
-use Rattle.layout.specs.Read.{place-is, params-is}
+use Rattle.layout.proofs.Read.{place-is, params-is}
 use mathlib.Core.Path.{_∙_}
 use native.Mathlib.Omega.{arith}
 use borrow.Author.Needs.{needs}

@@ -1,5 +1,5 @@
 -- `starting::prepare` meets its contract.
-use Rattle.starting.specs.Settled.{reply-room, put-indexed, few-slots, all-settled}
+use Rattle.starting.proofs.Settled.{reply-room, put-indexed, few-slots, all-settled}
 use Rattle.layout.proofs.Kept.{indexed-steady}
 use borrow.Author.Needs.{needs}
 use Rattle.starting.proofs.prepare.Statement.{statement}

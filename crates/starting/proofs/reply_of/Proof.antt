@@ -1,6 +1,6 @@
 -- `starting::reply_of` meets its contract.
 use Rattle.starting.proofs.Replies.{owns-is, replies-next, replies-end}
-use Rattle.layout.specs.Read.{chunks-are}
+use Rattle.layout.proofs.Read.{chunks-are}
 use Rattle.definition.specs.Start.{replies}
 use Rattle.definition.specs.Module.{moduleOf}
 use lib.ListN.{drop}

@@ -1,5 +1,5 @@
 -- `starting::start` meets its contract.
-use Rattle.starting.specs.Settled.{turned-back, none-found}
+use Rattle.starting.proofs.Settled.{turned-back, none-found}
 use borrow.Author.Needs.{needs}
 use Rattle.starting.proofs.start.Statement.{statement}
 use Rattle.starting.proofs.start.Tie as tie

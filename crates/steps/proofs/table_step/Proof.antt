@@ -1,5 +1,5 @@
 -- `steps::table_step` meets its contract.
-use Rattle.codesteps.specs.Bounds.{so-far-le}
+use Rattle.codesteps.proofs.Bounds.{so-far-le}
 use Prim.Native.Nat.{_^_}
 use native.Mathlib.Omega.{arith}
 use Rattle.definition.specs.Form.{tableStep}

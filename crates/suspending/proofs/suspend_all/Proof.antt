@@ -1,6 +1,6 @@
 -- `suspending::suspend_all` meets its contract.
 use Rattle.suspending.proofs.Looks.{Left, left-first, left-less, left-none, left-last, marked-indexed}
-use Rattle.layout.specs.Read.{chunks-are}
+use Rattle.layout.proofs.Read.{chunks-are}
 use native.Mathlib.Omega.{arith}
 use Rattle.suspending.proofs.suspend_all.Statement.{statement}
 use Rattle.suspending.proofs.suspend_all.Tie as tie

@@ -1,6 +1,6 @@
 -- `suspending::suspend_more` meets its contract.
 use Rattle.suspending.proofs.Looks.{Looking, looking-first, looking-next, looking-last, marked-indexed}
-use Rattle.layout.specs.Read.{chunks-are}
+use Rattle.layout.proofs.Read.{chunks-are}
 use Prim.Native.Nat.{_-_}
 use native.Mathlib.Omega.{arith}
 use Rattle.suspending.proofs.suspend_more.Statement.{statement}

@@ -1,6 +1,6 @@
 -- `suspending::suspend_one` meets its contract.
 use Rattle.suspending.proofs.Looks.{look-known, look-found, look-none}
-use Rattle.layout.specs.Read.{numbers-room}
+use Rattle.layout.proofs.Read.{numbers-room}
 use native.Mathlib.Omega.{arith}
 use borrow.Author.Needs.{needs}
 use Rattle.suspending.proofs.suspend_one.Statement.{statement}

@@ -5,7 +5,7 @@ use mathlib.Core.Logic.{⊎-elim}
 use borrow.Author.Tests.{eq-eqb, ne-eqb}
 use Rattle.masks.specs.Names.{ENUM, STRUCT}
 use denote.Ref.{now}
-use Rattle.telling.specs.Told.{false-by}
+use Rattle.telling.proofs.Told.{false-by}
 use borrow.Author.Needs.{needs}
 use Rattle.telling.proofs.false_inspection.Statement.{statement}
 use Rattle.telling.proofs.false_inspection.Tie as tie

@@ -1,6 +1,6 @@
 -- `telling::known_branch` meets its contract.
 use denote.Ref.{now}
-use Rattle.telling.specs.Told.{decided-by}
+use Rattle.telling.proofs.Told.{decided-by}
 use borrow.Author.Needs.{needs}
 use Rattle.telling.proofs.known_branch.Statement.{statement}
 use Rattle.telling.proofs.known_branch.Tie as tie

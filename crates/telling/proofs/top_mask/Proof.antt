@@ -7,7 +7,7 @@ use denote.Ref.{now}
 use Rattle.cells.specs.declared.Cell.{Cell}
 use Rattle.definition.specs.Start.{last}
 use Rattle.held.proofs.Args.{none-mask}
-use Rattle.telling.specs.Told.{top-is, top-none}
+use Rattle.telling.proofs.Told.{top-is, top-none}
 use borrow.Author.Needs.{needs}
 use Rattle.telling.proofs.top_mask.Statement.{statement}
 use Rattle.telling.proofs.top_mask.Tie as tie

@@ -9,9 +9,9 @@ use Rattle.le.specs.Wrote.{Wrote}
 use Rattle.le.proofs.Laws.{same-length as same-long}
 use Rattle.measuring.specs.Span.{span}
 use Rattle.measuring.specs.Adds.{addedFor, recordable, chunkFor}
-use Rattle.measuring.specs.Here.{count-recordable, counted-here}
-use Rattle.recording.specs.Writes.{said-exact, span-start, span-fits, span-turn}
-use Rattle.recording.specs.Values.{here-back}
+use Rattle.measuring.proofs.Here.{count-recordable, counted-here}
+use Rattle.recording.proofs.Writes.{said-exact, span-start, span-fits, span-turn}
+use Rattle.recording.proofs.Values.{here-back}
 use Rattle.writing.proofs.put_chunk.Statement.{statement}
 use Rattle.writing.proofs.put_chunk.Tie as tie
 

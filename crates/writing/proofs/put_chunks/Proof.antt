@@ -7,10 +7,10 @@ use lib.ListN.{length}
 use Rattle.le.specs.Wrote.{Wrote}
 use Rattle.le.proofs.Laws.{same-length as same-long}
 use Rattle.definition.specs.Module.{moduleOf}
-use Rattle.layout.specs.Read.{chunks-are}
+use Rattle.layout.proofs.Read.{chunks-are}
 use Rattle.measuring.specs.Span.{span}
 use Rattle.measuring.specs.Adds.{chunkFor, chunksFor}
-use Rattle.recording.specs.Writes.{said-exact, span-start, span-fits, span-turn}
+use Rattle.recording.proofs.Writes.{said-exact, span-start, span-fits, span-turn}
 use Rattle.writing.proofs.put_chunks.Statement.{statement}
 use Rattle.writing.proofs.put_chunks.Tie as tie
 

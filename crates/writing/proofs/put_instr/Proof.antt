@@ -10,9 +10,9 @@ use mathlib.Core.Path.{sym, ap, _∙_}
 use mathlib.Core.Bool.{Bool, _&&_}
 use lib.Dec.{eqb}
 use Rattle.description.specs.declared.Instr.{Instr}
-use Rattle.measuring.specs.Here.{row-here, stands-here, some-here}
-use Rattle.recording.specs.Writes.{exact, said-exact, wrote-none}
-use Rattle.recording.specs.Values.{here-as, small-here}
+use Rattle.measuring.proofs.Here.{row-here, stands-here, some-here}
+use Rattle.recording.proofs.Writes.{exact, said-exact, wrote-none}
+use Rattle.recording.proofs.Values.{here-as, small-here}
 use Rattle.writing.proofs.Tagged.{as-record, as-inspection, as-branch, as-nothing}
 use borrow.Author.Needs.{needs}
 use Rattle.writing.proofs.put_instr.Statement.{statement}

@@ -5,11 +5,11 @@ use mathlib.Core.Path.{_≡_, refl}
 use Rattle.le.proofs.Laws.{and-then, same-length as same-long}
 use Rattle.putting.proofs.Laws.{said}
 use Rattle.layout.specs.Layout.{inputAt}
-use Rattle.layout.specs.Read.{params-is}
+use Rattle.layout.proofs.Read.{params-is}
 use Rattle.definition.specs.Module.{moduleOf}
-use Rattle.measuring.specs.Long.{signature-long}
-use Rattle.recording.specs.Writes.{exact, low16}
-use Rattle.recording.specs.Values.{input-room, signature-parts}
+use Rattle.measuring.proofs.Long.{signature-long}
+use Rattle.recording.proofs.Writes.{exact, low16}
+use Rattle.recording.proofs.Values.{input-room, signature-parts}
 use borrow.Author.Needs.{needs}
 use Rattle.writing.proofs.put_signature.Statement.{statement}
 use Rattle.writing.proofs.put_signature.Tie as tie

@@ -8,8 +8,8 @@ use Rattle.le.specs.Wrote.{Wrote}
 use Rattle.le.proofs.Laws.{same-length as same-long}
 use Rattle.measuring.specs.Span.{span}
 use Rattle.measuring.specs.Adds.{signatureAt}
-use Rattle.recording.specs.Writes.{said-exact, span-start, span-fits, span-turn}
-use Rattle.layout.specs.Read.{signatures-are}
+use Rattle.recording.proofs.Writes.{said-exact, span-start, span-fits, span-turn}
+use Rattle.layout.proofs.Read.{signatures-are}
 use Rattle.writing.proofs.put_signatures.Statement.{statement}
 use Rattle.writing.proofs.put_signatures.Tie as tie
 

@@ -2,7 +2,7 @@
 use denote.Ref.{now}
 use Rattle.le.proofs.Laws.{and-then}
 use Rattle.putting.proofs.Laws.{said}
-use Rattle.recording.specs.Writes.{slot-bytes}
+use Rattle.recording.proofs.Writes.{slot-bytes}
 use borrow.Author.Needs.{needs}
 use Rattle.writing.proofs.put_slot.Statement.{statement}
 use Rattle.writing.proofs.put_slot.Tie as tie

@@ -7,7 +7,8 @@ use lib.ListN.{length}
 use Rattle.le.specs.Wrote.{Wrote}
 use Rattle.le.proofs.Laws.{same-length as same-long}
 use Rattle.measuring.specs.Span.{span}
-use Rattle.recording.specs.Writes.{slotFrom, exact, span-start, span-fits, span-turn, slot-long, said-exact}
+use Rattle.recording.specs.Writes.{slotFrom}
+use Rattle.recording.proofs.Writes.{exact, span-start, span-fits, span-turn, slot-long, said-exact}
 use Rattle.writing.proofs.put_slots.Statement.{statement}
 use Rattle.writing.proofs.put_slots.Tie as tie
 

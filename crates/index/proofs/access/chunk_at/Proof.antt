@@ -1,5 +1,5 @@
 -- `index::chunk_at` meets its contract.
-use Rattle.layout.specs.Read.{numbers-room, chunk-read}
+use Rattle.layout.proofs.Read.{numbers-room, chunk-read}
 use native.Mathlib.Omega.{arith}
 use Rattle.index.proofs.access.chunk_at.Statement.{statement}
 use Rattle.index.proofs.access.chunk_at.Tie as tie

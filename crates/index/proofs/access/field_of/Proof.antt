@@ -1,6 +1,6 @@
 -- `index::field_of` meets its contract.
 use denote.Ref.{now}
-use Rattle.layout.specs.Read.{row-known}
+use Rattle.layout.proofs.Read.{row-known}
 use native.Mathlib.Omega.{arith}
 use Rattle.index.proofs.access.field_of.Statement.{statement}
 use Rattle.index.proofs.access.field_of.Tie as tie

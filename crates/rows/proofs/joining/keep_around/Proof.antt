@@ -1,6 +1,6 @@
 -- `rows::keep_around` meets its contract: the locals before the one that is given, it, and those behind.
 use Rattle.keep.proofs.Laws.{places-first, places-behind}
-use Rattle.rows.specs.Left.{locals-around}
+use Rattle.rows.proofs.Left.{locals-around}
 use mathlib.Core.Path.{_∙_}
 use denote.Ref.{now}
 use native.Mathlib.Omega.{arith}

@@ -1,5 +1,5 @@
 -- `rows::keep_locals` meets its contract, by whether the local that is given is one of them.
-use Rattle.rows.specs.Left.{locals-beside}
+use Rattle.rows.proofs.Left.{locals-beside}
 use Rattle.words.specs.Rows.{cellsAt}
 use Rattle.words.proofs.RowLaws.{cellsAt-length}
 use denote.Ref.{now}

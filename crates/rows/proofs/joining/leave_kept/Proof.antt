@@ -1,5 +1,5 @@
 -- `rows::leave_kept` meets its contract: the stack, then the locals, which are read after it.
-use Rattle.rows.specs.Left.{stack-places, locals-places, kept-left}
+use Rattle.rows.proofs.Left.{stack-places, locals-places, kept-left}
 use native.Mathlib.Omega.{arith}
 use borrow.Author.Needs.{needs}
 use Rattle.rows.proofs.joining.leave_kept.Statement.{statement}

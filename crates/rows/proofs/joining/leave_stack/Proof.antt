@@ -1,5 +1,5 @@
 -- `rows::leave_stack` meets its contract: what is kept, then the outputs.
-use Rattle.rows.specs.Left.{stack-arrived}
+use Rattle.rows.proofs.Left.{stack-arrived}
 use denote.Ref.{now}
 use native.Mathlib.Omega.{arith}
 use Prim.Native.Nat.{_+_}

@@ -1,6 +1,6 @@
 -- `rows::set_on_way` meets its contract, by whether a local is narrowed.
 use lib.ListN.{length}
-use Rattle.rows.specs.Left.{narrow-room, set-as-given, set-on-way}
+use Rattle.rows.proofs.Left.{narrow-room, set-as-given, set-on-way}
 use mathlib.Core.Path.{refl}
 use denote.Ref.{now}
 use Prim.Native.Nat.{_+_, _*_}

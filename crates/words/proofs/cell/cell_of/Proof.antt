@@ -1,6 +1,6 @@
 use Prim.Native.Nat.{ℕ}
 use lib.ListN.{getD}
-use Rattle.words.specs.Layout.{decoded}
+use Rattle.words.proofs.Cells.{decoded}
 use borrow.Author.Needs.{needs}
 use Rattle.words.proofs.cell.cell_of.Statement.{statement}
 use Rattle.words.proofs.cell.cell_of.Tie as tie

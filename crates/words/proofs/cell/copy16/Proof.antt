@@ -4,7 +4,7 @@ use Prim.Native.Nat.{ℕ}
 use native.Mathlib.Omega.{arith}
 use borrow.Author.Needs.{needs}
 use denote.Ref.{now}
-use Rattle.words.specs.Layout.{put-copy, off-is}
+use Rattle.words.proofs.Cells.{put-copy, off-is}
 use Rattle.words.proofs.cell.copy16.Statement.{statement}
 use Rattle.words.proofs.cell.copy16.Tie as tie
 use Rattle.words.proofs.cell.copy16.Reads as reads

@@ -1,5 +1,5 @@
 use borrow.Author.Tests.{eq-eqb, ne-eqb}
-use Rattle.words.specs.Layout.{extent-eq}
+use Rattle.words.proofs.Cells.{extent-eq}
 use borrow.Author.Needs.{needs}
 use Rattle.words.proofs.cell.extent_of.Statement.{statement}
 use Rattle.words.proofs.cell.extent_of.Tie as tie

@@ -3,7 +3,7 @@ use mathlib.Core.Path.{_≡_, refl, sym, ap, _∙_}
 use Prim.Native.Nat.{ℕ, _≤_, _-_, _+_, _<_}
 use native.Mathlib.Omega.{arith}
 use denote.Ref.{now}
-use Rattle.words.specs.Layout.{get-step, off-is}
+use Rattle.words.proofs.Cells.{get-step, off-is}
 use Rattle.words.proofs.cell.get16.Statement.{statement}
 use Rattle.words.proofs.cell.get16.Tie as tie
 use Rattle.words.proofs.cell.get16.Reads as reads

@@ -1,7 +1,7 @@
 use mathlib.Core.Path.{_∙_}
 use native.Mathlib.Omega.{arith}
 use Rattle.words.specs.Layout.{cellAt}
-use Rattle.words.specs.Layout.{decode-eq}
+use Rattle.words.proofs.Cells.{decode-eq}
 use borrow.Author.Needs.{needs}
 use Rattle.words.proofs.cell.load.Statement.{statement}
 use Rattle.words.proofs.cell.load.Tie as tie

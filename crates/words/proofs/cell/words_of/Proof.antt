@@ -1,5 +1,5 @@
 use native.Mathlib.Omega.{arith}
-use Rattle.words.specs.Layout.{encoded, fits}
+use Rattle.words.proofs.Cells.{encoded, fits}
 use borrow.Author.Needs.{needs}
 use Rattle.words.proofs.cell.words_of.Statement.{statement}
 use Rattle.words.proofs.cell.words_of.Tie as tie

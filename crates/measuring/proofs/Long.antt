@@ -27,8 +27,9 @@ use Rattle.course.specs.Course.{knownAs}
 use Rattle.course.proofs.Rows.{stateAt}
 use Rattle.looking.proofs.Parts.{ins-is}
 use Rattle.reading.proofs.Walk.{field-long}
-use Rattle.measuring.specs.Four.{Four, four-at, four-long, looked-four}
-use Rattle.measuring.specs.Adds.{bareAt, signatureAt, privateAt, added, recordAt}
+use Rattle.measuring.proofs.Four.{Four, four-at, four-long, looked-four}
+use Rattle.measuring.specs.Adds.{bareAt, signatureAt, added, recordAt}
+use Rattle.measuring.proofs.Adds.{privateAt}
 
 -- ---- the parts
 pub cells-long : (ws : List ℕ) (p n : ℕ) → length (cellsBytes (cellsAt ws p n)) ≡ 49 * n
