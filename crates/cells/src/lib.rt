@@ -1,4 +1,7 @@
 // Cells: mask, width and flow of one place, joined, made, declared and narrowed.
+mod guarding;
+
+pub use guarding::guarded_width;
 ghost use mathlib.Core.Path.{_≡_};
 ghost use Rattle.cells.specs.Cell.{joinCell, sameCell, joinedCell, made, declared, invalidatedCell, bareCell, narrowEnum, unitCell, ownedWidth};
 use flows::Flow;

@@ -17,11 +17,11 @@ use Rattle.masks.specs.Names.{NONE}
 use Rattle.flows.specs.Flow.{joinFlow, noFlow}
 use Rattle.cells.specs.declared.Cell.{Cell}
 use Rattle.cells.specs.Cell.{joinCell}
-use Rattle.laws.proofs.Join.{takes-trans}
-use Rattle.laws.proofs.Lists.{eachSame, each-equals}
-use Rattle.laws.proofs.Masks.{union-joins, mask-equals}
-use Rattle.laws.proofs.Flows.{flow-joins, flow-equals}
-use Rattle.laws.proofs.Cells.{cell-equals}
+use Rattle.join_laws.proofs.Join.{takes-trans}
+use Rattle.join_laws.proofs.Lists.{eachSame, each-equals}
+use Rattle.join_laws.proofs.Masks.{union-joins, mask-equals}
+use Rattle.join_laws.proofs.Flows.{flow-joins, flow-equals}
+use Rattle.join_laws.proofs.Cells.{cell-equals}
 use Rattle.definition.specs.Module.{Module}
 use Rattle.definition.specs.State.{Facts, Live, Gift, nothing, arguments, returned, written, joinCells}
 use Rattle.definition.specs.Data.{isBody}
@@ -29,7 +29,7 @@ use Rattle.definition.specs.Outputs.{noCell}
 use Rattle.definition.specs.Leaves.{joinAt, storedFlow, withFlows, writeFlow, writeMask, writeSlot, writeSlots, absorb, unionMasks, sameMasks, opened, closed, moved}
 use Rattle.definition.specs.Start.{firstFacts}
 use Rattle.masks.proofs.Both.{or-left, or-right}
-use Rattle.goodform.proofs.Each.{joinCells-length}
+use Rattle.form_laws.proofs.Each.{joinCells-length}
 use Rattle.consistent.proofs.Rows.{Grows, grows-of, over, over-wider, taken-at, In, Wider, wider-refl, wider-trans, at-still, at-has, at-wider}
 use Rattle.consistent.proofs.States.{cell-grows, cells-grows, cells-equals}
 use Rattle.consistent.specs.Consistent.{Private}

@@ -8,8 +8,8 @@ use Rattle.answers.specs.declared.Answer.the-variants.{Accepted}
 use Rattle.definition.specs.Module.{moduleOf}
 use Rattle.definition.specs.Report.{Report, reportBytes}
 use Rattle.definition.specs.Call.{call}
-use Rattle.reading.specs.Read.{readReport}
-use Rattle.reading.proofs.Reports.{decided-back}
+use Rattle.report_laws.specs.Read.{readReport}
+use Rattle.report_laws.proofs.Reports.{decided-back}
 use Rattle.consistent.specs.Consistent.{Consistent}
 use Rattle.consistent.proofs.Theorem.{consistent}
 use Rattle.consistent.proofs.Accepted.{accepted-left}

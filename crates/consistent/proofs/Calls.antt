@@ -13,10 +13,10 @@ use Rattle.definition.specs.Module.{Module, Chunk, Line, moduleOf}
 use Rattle.definition.specs.Leaves.{lineAt, noLine}
 use Rattle.definition.specs.Start.{declaredParams, firstFacts}
 use Rattle.definition.specs.Form.{callee, formOf}
-use Rattle.goodform.specs.Good.{noChunk, chunkNo, lineNo, LineGood, ChunkGood}
-use Rattle.goodform.proofs.Each.{mem-at, map-at}
-use Rattle.goodform.proofs.Theorem.{good-form}
-use Rattle.ruled.proofs.Told.{call-callee}
+use Rattle.form_laws.specs.Good.{noChunk, chunkNo, lineNo, LineGood, ChunkGood}
+use Rattle.form_laws.proofs.Each.{mem-at, map-at}
+use Rattle.form_laws.proofs.Theorem.{good-form}
+use Rattle.rule_laws.proofs.Told.{call-callee}
 use Rattle.consistent.specs.Consistent.{lineOf}
 use Rattle.consistent.proofs.Range.{CallsFit}
 

@@ -15,9 +15,9 @@ use Rattle.definition.specs.Form.{formOf, nowhere}
 use Rattle.definition.specs.Start.{admitted, firstFacts, overfull, replyMaximum, knownOf, start, afterChunk}
 use Rattle.definition.specs.Report.{Report, reportOf}
 use Rattle.definition.specs.Call.{runOf, reported, turned, onRan, admittedRun, onReply, known, onAdmitted, decided, onForm, decide}
-use Rattle.worklist.proofs.Limits.{accepted-same}
+use Rattle.machine_laws.proofs.Limits.{accepted-same}
 use Rattle.masks.proofs.Both.{never}
-use Rattle.worklist.proofs.Bind.{some-inj}
+use Rattle.machine_laws.proofs.Bind.{some-inj}
 
 -- what a run of the module was
 pub record Made (m : Module) (cap limit : ℕ) (r : Report) (n : ℕ) : Type 0 where

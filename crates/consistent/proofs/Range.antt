@@ -23,8 +23,8 @@ use Rattle.definition.specs.Wants.{isEntry}
 use Rattle.definition.specs.Wants.{returned as valueBelow}
 use Rattle.definition.specs.Leaves.{Known, visitOf, always, givesBy, gives}
 use Rattle.definition.specs.Start.{firstFacts}
-use Rattle.ruled.proofs.Faults.{no-fault, always-parts}
-use Rattle.ruled.proofs.Told.{call-is}
+use Rattle.rule_laws.proofs.Faults.{no-fault, always-parts}
+use Rattle.rule_laws.proofs.Told.{call-is}
 use Rattle.consistent.specs.Consistent.{lineOf}
 use Rattle.consistent.proofs.Absorb.{Declared}
 use Rattle.consistent.proofs.Records.{Numbered, as-many, first-masks}

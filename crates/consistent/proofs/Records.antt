@@ -27,8 +27,8 @@ use Rattle.definition.specs.Start.{firstFacts}
 use Rattle.definition.specs.Report.{Record, signaturesFrom, slotCells, recordFrom, recordOf, fromState, fromStates, fromChunks, reportOf}
 use Rattle.consistent.proofs.Rows.{wider-refl}
 use Rattle.consistent.proofs.Absorb.{Declared}
-use Rattle.goodform.proofs.Each.{suc-out, row-length}
-use Rattle.worklist.proofs.Bind.{none≢some, some-inj}
+use Rattle.form_laws.proofs.Each.{suc-out, row-length}
+use Rattle.machine_laws.proofs.Bind.{none≢some, some-inj}
 use Rattle.consistent.specs.Consistent.{factsOf, stateOf, Recorded}
 
 -- ---- chunks beside their states

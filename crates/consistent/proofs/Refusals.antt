@@ -14,11 +14,11 @@ use Rattle.definition.specs.State.{State, Facts, Live, join}
 use Rattle.definition.specs.Leaves.{Known, leaves, absorb, opened, closed, moved}
 use Rattle.definition.specs.Start.{start, afterChunk}
 use Rattle.definition.specs.Call.{runOf}
-use Rattle.worklist.proofs.Takings.{after-takings, Counted, Spent, refused-counted}
-use Rattle.worklist.proofs.Limits.{Full, full-exactly}
-use Rattle.numbers.proofs.Only.{OfRes, OfPlace, OfWhere}
-use Rattle.numbers.proofs.Visits.{leaves-of, join-of, after-of}
-use Rattle.numbers.proofs.Runs.{enter-only, takes-only}
+use Rattle.machine_laws.proofs.Takings.{after-takings, Counted, Spent, refused-counted}
+use Rattle.machine_laws.proofs.Limits.{Full, full-exactly}
+use Rattle.refusal_laws.proofs.Only.{OfRes, OfPlace, OfWhere}
+use Rattle.refusal_laws.proofs.Visits.{leaves-of, join-of, after-of}
+use Rattle.refusal_laws.proofs.Runs.{enter-only, takes-only}
 
 -- ---- what a visit, a join and the end of a chunk refuse by is no number below 13
 abbrev Not : ℕ → ℕ → Type 0

@@ -8,8 +8,8 @@ use mathlib.Core.List.{List, [], _∷_, head-eq-of-cons-eq, tail-eq-of-cons-eq}
 use lib.ListN.{length, getD, set, length-set}
 use lib.Seq.{getD-set-same, getD-set-other, set-getD}
 use borrow.Author.Tests.{not-false}
-use Rattle.laws.specs.Join.{Joins, Equals}
-use Rattle.laws.proofs.Join.{takes-right, takes-more}
+use Rattle.join_laws.specs.Join.{Joins, Equals}
+use Rattle.join_laws.proofs.Join.{takes-right, takes-more}
 use Rattle.definition.specs.Leaves.{joinAt, movedAt}
 
 -- what is asked of a join here; a join of rows need not be commutative

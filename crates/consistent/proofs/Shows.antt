@@ -7,7 +7,7 @@ use mathlib.Core.List.{[], _∷_, List·Memᴰ, List·Memᴰ·head, List·Memᴰ
 use Rattle.masks.specs.Mask.{same}
 use Rattle.masks.specs.Names.{FALSE, TRUE}
 use Rattle.ops.specs.Ops.{ruleOf}
-use Rattle.laws.proofs.Masks.{mask-equals}
+use Rattle.join_laws.proofs.Masks.{mask-equals}
 use Rattle.definition.specs.Module.{Chunk}
 use Rattle.definition.specs.State.{State}
 use Rattle.definition.specs.Start.{last}

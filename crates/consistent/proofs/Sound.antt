@@ -10,9 +10,9 @@ use Rattle.definition.specs.State.{State, Facts, Live, Gift, join}
 use Rattle.definition.specs.Leaves.{Known, leaves, absorb, opened, closed, moved}
 use Rattle.definition.specs.Start.{start, afterChunk}
 use Rattle.definition.specs.Call.{runOf}
-use Rattle.worklist.proofs.Settle.{Frame}
-use Rattle.worklist.proofs.Sweep.{Each}
-use Rattle.worklist.proofs.Sound.{Fixed, Rules, check-sound}
+use Rattle.machine_laws.proofs.Settle.{Frame}
+use Rattle.machine_laws.proofs.Sweep.{Each}
+use Rattle.machine_laws.proofs.Sound.{Fixed, Rules, check-sound}
 use Rattle.consistent.proofs.States.{join-laws}
 use Rattle.consistent.proofs.Absorb.{Has, Good, Fits, absorb-still, absorb-has, absorb-keeps, absorb-good, opened-good, calm, reopened, fitting, Declared, absorb-declared, closed-declared}
 use Rattle.consistent.proofs.Visits.{agree, first-only}

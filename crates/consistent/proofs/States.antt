@@ -8,15 +8,15 @@ use borrow.Author.Tests.{not-false, eq-eqb, eqb-true}
 use Rattle.masks.proofs.Both.{both, never}
 use Rattle.cells.specs.declared.Cell.{Cell}
 use Rattle.cells.specs.Cell.{joinCell, sameCell}
-use Rattle.laws.specs.Join.{Equals}
-use Rattle.laws.proofs.Lists.{eachSame, each-equals}
-use Rattle.laws.proofs.Cells.{cell-joins, cell-equals}
+use Rattle.join_laws.specs.Join.{Equals}
+use Rattle.join_laws.proofs.Lists.{eachSame, each-equals}
+use Rattle.join_laws.proofs.Cells.{cell-joins, cell-equals}
 use Rattle.definition.specs.Res.{ok}
 use Rattle.definition.specs.Machine.{Joined}
 use Rattle.definition.specs.State.{State, joinCells, sameCells, joinStates, sameStates, joinIf, join}
 use Rattle.definition.specs.Outputs.{noCell}
-use Rattle.worklist.proofs.Moves.{Takes, Laws}
-use Rattle.goodform.proofs.Each.{joinCells-length}
+use Rattle.machine_laws.proofs.Moves.{Takes, Laws}
+use Rattle.form_laws.proofs.Each.{joinCells-length}
 use Rattle.consistent.proofs.Rows.{Grows, grows-of, over, over-grows, taken-at}
 use Rattle.consistent.specs.Consistent.{TakesAll, TakesIn}
 

@@ -10,7 +10,7 @@ use mathlib.Core.List.{List, [], _∷_, List·Memᴰ, List·Memᴰ·not-nil, Lis
 use lib.ListN.{length, getD}
 use Rattle.masks.specs.Names.{NONE}
 use Rattle.cells.specs.Cell.{joinCell}
-use Rattle.laws.proofs.Masks.{union-joins}
+use Rattle.join_laws.proofs.Masks.{union-joins}
 use Rattle.definition.specs.Outputs.{noCell}
 use Rattle.definition.specs.Ways.{leaving}
 use Rattle.definition.specs.Machine.{Final, Effect}
@@ -21,11 +21,11 @@ use Rattle.definition.specs.Leaves.{Known, visitOf, gives, leaves}
 use Rattle.definition.specs.Start.{initMask, admitted, firstFacts, knownOf}
 use Rattle.definition.specs.Report.{Report, Record, Branch, Inspection, reportOf, branchOf, inspectionOf}
 use Rattle.definition.specs.Call.{runOf, reported, decide}
-use Rattle.worklist.proofs.Sweep.{Each, none-left, one-more}
-use Rattle.goodform.proofs.Each.{row-at}
-use Rattle.worklist.proofs.Bind.{none≢some}
-use Rattle.ruled.proofs.Faults.{low-enough}
-use Rattle.goodform.proofs.Admitted.{Admitted, all-admitted}
+use Rattle.machine_laws.proofs.Sweep.{Each, none-left, one-more}
+use Rattle.form_laws.proofs.Each.{row-at}
+use Rattle.machine_laws.proofs.Bind.{none≢some}
+use Rattle.rule_laws.proofs.Faults.{low-enough}
+use Rattle.form_laws.proofs.Admitted.{Admitted, all-admitted}
 use Rattle.consistent.specs.Consistent.{Consistent, ConsistentChunk, Recorded, Reached, first, then, lineOf, GivenIn, Fine, DeclaredIn, Leaves, KnownBranch, FalseInspection, visitAt, factsOf, stateOf, TakesIn}
 use Rattle.consistent.proofs.Shows.{Branches, Inspects, branch-shows, inspection-shows, shown-branch, shown-inspection}
 use Rattle.consistent.proofs.Rows.{taken-at}

@@ -7,9 +7,9 @@ use mathlib.Core.Option.{Option}
 use mathlib.Core.List.{List, [], List·Memᴰ}
 use Rattle.definition.specs.Res.{Res, ok}
 use Rattle.definition.specs.Machine.{Joined, Effect, Work, Final, accepted, adds, check}
-use Rattle.worklist.proofs.Moves.{Takes, Laws, Recorded, Grown, Moved, Via, puts-inv}
-use Rattle.worklist.proofs.Steps.{Steps, stay, drop, step}
-use Rattle.worklist.proofs.Sweep.{Each, none-left, one-more, Sweep, swept, skip, work, Idle, Apart, check-apart}
+use Rattle.machine_laws.proofs.Moves.{Takes, Laws, Recorded, Grown, Moved, Via, puts-inv}
+use Rattle.machine_laws.proofs.Steps.{Steps, stay, drop, step}
+use Rattle.machine_laws.proofs.Sweep.{Each, none-left, one-more, Sweep, swept, skip, work, Idle, Apart, check-apart}
 
 module _ {S G : Type 0} (join : S → S → Res (Joined S)) (leaves : ℕ → S → Res (Effect S G)) where
   -- each pass leaves a recorded instruction, in a state that the recorded one has taken in

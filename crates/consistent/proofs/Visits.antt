@@ -22,9 +22,9 @@ use Rattle.definition.specs.Wants.{unfit}
 use Rattle.definition.specs.Ways.{branch, narrowing, along, onWay, leavingBy, leaving}
 use Rattle.definition.specs.Leaves.{Known, lineAt, noLine, visitOf, always, gives, unless, heightFault, visited, leaves}
 use Rattle.definition.specs.Start.{start, filled, stateFault, inspected, afterChunk}
-use Rattle.goodform.proofs.Each.{suc-out}
+use Rattle.form_laws.proofs.Each.{suc-out}
 use Rattle.masks.proofs.Both.{never}
-use Rattle.worklist.proofs.Bind.{none≢some}
+use Rattle.machine_laws.proofs.Bind.{none≢some}
 use Rattle.consistent.specs.Consistent.{lineOf}
 
 -- ---- the effect of an accepted visit

@@ -28,9 +28,9 @@ use Rattle.ops.specs.declared.Asks.{Asks}
 use Rattle.ops.specs.declared.Asks.the-variants.{First}
 use Rattle.ops.specs.declared.Acts.{Acts}
 use Rattle.ops.specs.declared.Acts.the-variants.{Still}
-use Rattle.laws.proofs.Masks.{or-le-r, none-of-or, mask-equals}
-use Rattle.laws.proofs.Flows.{predicate-equals}
-use Rattle.laws.proofs.Cells.{cell-joins, cell-mask}
+use Rattle.join_laws.proofs.Masks.{or-le-r, none-of-or, mask-equals}
+use Rattle.join_laws.proofs.Flows.{predicate-equals}
+use Rattle.join_laws.proofs.Cells.{cell-joins, cell-mask}
 use Rattle.definition.specs.declared.Ask.the-variants.{First as AskFirst}
 use Rattle.definition.specs.Res.{ok}
 use Rattle.definition.specs.Machine.{Effect}
@@ -41,8 +41,8 @@ use Rattle.definition.specs.Wants.{require, wants, wantOf, atIndex, operandChec
 use Rattle.definition.specs.Ways.{branch, waysOf, receiverOn, narrowing, along, narrowed, setLocals, kept, afterBy, after, leaving}
 use Rattle.definition.specs.Leaves.{Known, visitOf, leaves}
 use Rattle.definition.specs.Report.{isTest}
-use Rattle.worklist.proofs.Bind.{none≢some}
-use Rattle.ruled.proofs.Tests.{test-rule}
+use Rattle.machine_laws.proofs.Bind.{none≢some}
+use Rattle.rule_laws.proofs.Tests.{test-rule}
 use Rattle.consistent.specs.Consistent.{lineOf, TakesAll, TakesIn}
 use Rattle.consistent.proofs.Visits.{accepted, branch-in, leaving-in, in-leaving}
 

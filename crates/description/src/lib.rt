@@ -1,4 +1,16 @@
 // The fields of a description, read at a place. Every read is total.
+mod heads;
+pub mod reader;
+mod shapes;
+
+pub use heads::chunk_at;
+pub use heads::header_at;
+pub use heads::instr_at;
+pub use shapes::declared_result;
+pub use shapes::param_at;
+pub use shapes::shape_at;
+pub use shapes::site_reply;
+pub use shapes::site_yielded;
 ghost use mathlib.Core.Path.{_≡_};
 ghost use Prim.Native.Nat.{_+_, _<_, _^_};
 ghost use Rattle.description.specs.Fields.{tagAt, lenAt, nextAt, tagsAt, paramsAt, paramsOf, hasSite};

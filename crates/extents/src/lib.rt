@@ -1,4 +1,8 @@
 // Extents: the size range of a body of one kind.
+mod bodies;
+
+pub use bodies::join_bodies;
+pub use bodies::same_bodies;
 ghost use mathlib.Core.Path.{_≡_};
 ghost use Prim.Native.Nat.{min, max};
 ghost use Rattle.extents.specs.Extent.{joinBody, sameBody, joinExtent, sameExtent, joinedExtent, extentMinimum, extentExact, exactWidth};

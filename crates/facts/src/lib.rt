@@ -1,8 +1,8 @@
 // The library: `check`, `lookup`.
 pub use answers::Answer;
 pub use answers::Refusal;
-pub use find::lookup;
-ghost use Rattle.checking.specs.Checked.{Checked};
+pub use lookup::lookup;
+ghost use Rattle.call.specs.Checked.{Checked};
 
 // The facts of a description: the report's length and the steps, or the refusal.
 pub fn check(description: &[u8], workspace: &mut [u32], report: &mut [u8], limit: u32) -> Answer
@@ -10,5 +10,5 @@ pub fn check(description: &[u8], workspace: &mut [u32], report: &mut [u8], limit
         Checked (now (description .entry)) (now (workspace .entry)) (now (report .entry)) limit r (now (report .exit)) (now (workspace .exit))
         ⌝ }
 {
-    checking::check(description, workspace, report, limit)
+    call::check(description, workspace, report, limit)
 }

@@ -15,12 +15,12 @@ use Rattle.definition.specs.declared.Form.the-variants.{Fine, Refused}
 use Rattle.definition.specs.Form.{formOf}
 use Rattle.definition.specs.Module.{moduleOf}
 use Rattle.definition.specs.Call.{call}
-use Rattle.reading.specs.Read.{readReport}
+use Rattle.report_laws.specs.Read.{readReport}
 use Rattle.consistent.specs.Consistent.{Consistent}
-use Rattle.goodform.proofs.Theorem.{good-form}
-use Rattle.find.specs.declared.Part.{Part}
-use Rattle.numbers.proofs.Calls.{refused-numbers}
-use Rattle.checking.specs.Checked.{Checked}
+use Rattle.form_laws.proofs.Theorem.{good-form}
+use Rattle.lookup.specs.declared.Part.{Part}
+use Rattle.refusal_laws.proofs.Calls.{refused-numbers}
+use Rattle.call.specs.Checked.{Checked}
 use Rattle.facts_c.specs.Called.{CallOf, formNumber, leastWords, WordsOf, PartOf}
 
 pub in-accepted : (a : Answer) (length steps : ℕ) → a ≡ Accepted length steps

@@ -11,9 +11,9 @@ use Rattle.definition.specs.declared.Form.{Form}
 use Rattle.definition.specs.declared.Form.the-variants.{Fine, Refused}
 use Rattle.definition.specs.Module.{moduleOf}
 use Rattle.definition.specs.Call.{call}
-use Rattle.reading.specs.Read.{readReport}
+use Rattle.report_laws.specs.Read.{readReport}
 use Rattle.consistent.specs.Consistent.{Consistent}
-use Rattle.find.specs.declared.Part.{Part}
+use Rattle.lookup.specs.declared.Part.{Part}
 
 -- s the description, ws and buf workspace and report buffer as they were; r what is returned, out, buf′ and ws′ what the call left
 pub record CallOf (s ws buf : List ℕ) (limit r : ℕ) (out buf′ ws′ : List ℕ) : Type 0 where

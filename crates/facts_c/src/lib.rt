@@ -2,14 +2,14 @@
 use answers::Answer;
 use definition::Form;
 use facts::check;
-use find::part_of;
 use form::check_form;
+use lookup::part_of;
 ghost use Prim.Native.Nat.{_<_};
 ghost use mathlib.Core.Path.{_≡_};
 ghost use lib.ListN.{getD};
 ghost use Rattle.answers.specs.Answers.{numbers};
 ghost use Rattle.definition.specs.Form.{formOf};
-ghost use Rattle.find.specs.Find.{found};
+ghost use Rattle.lookup.specs.Find.{found};
 ghost use Rattle.facts_c.specs.Called.{CallOf, WordsOf, PartOf};
 
 // An answer as five words.

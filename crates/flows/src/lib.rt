@@ -1,12 +1,12 @@
 // Flows: the extents of a place's body kinds with ownership, origin and predicate.
 ghost use mathlib.Core.Path.{_≡_};
 ghost use Rattle.flows.specs.Flow.{joinOwned, sameOwned, sameOrigin, joinOrigin, originWithout, samePredicate, joinPredicate, predicateWithout, negated, sameBool, joinFlow, sameFlow, joinedFlow, noFlow, extentOfKind, newFlow, minimumOf, larger, largest, maximumOf, invalidated, bare};
-use bodies::join_bodies;
-use bodies::same_bodies;
 use extents::BodyExtent;
 use extents::Extent;
 use extents::Size;
+use extents::join_bodies;
 use extents::most;
+use extents::same_bodies;
 use masks::Mask;
 use widths::Width;
 

@@ -9,15 +9,15 @@ use lib.ListN.{length}
 use Rattle.answers.specs.declared.Refusal.{Refusal}
 use Rattle.description.specs.Fields.{nextAt, fieldsFrom}
 use Rattle.description.proofs.Walk.{fields-turn, fields-end}
-use Rattle.reader.specs.Reading.{after}
-use Rattle.reader.proofs.Laws.{after-next}
+use Rattle.description.specs.reader.Reading.{after}
+use Rattle.description.proofs.reader.Laws.{after-next}
 use Rattle.definition.specs.declared.Scan.{Scan}
 use Rattle.definition.specs.declared.Step.the-variants.{Go, Stop}
 use Rattle.definition.specs.declared.Form.{Form}
 use Rattle.definition.specs.declared.Form.the-variants.{Refused}
 use Rattle.definition.specs.Form.{fieldStep, finished, onStep, scanFrom, unscanned, formOf}
-use Rattle.late.specs.Counted.{counted}
-use Rattle.codesteps.specs.Bounds.{Bounded}
+use Rattle.form.specs.late_checks.Counted.{counted}
+use Rattle.form.specs.code_steps.Bounds.{Bounded}
 use Rattle.form.proofs.Within.{After, go-after, go-inside}
 
 -- from the field at p on the walk gives w, nothing passes its bound, and what the late looks count is what they count from here on

@@ -5,7 +5,7 @@ use mathlib.Core.List.{List, _∷_}
 use Prim.Native.Nat.{ℕ, _+_, _-_, _<_, _≤_}
 use native.Mathlib.Omega.{arith}
 use Rattle.masks.proofs.Both.{both}
-use Rattle.goodform.proofs.Faults.{HeaderFine, header-fine, ChunkFine, chunk-fine, instr-fine}
+use Rattle.form_laws.proofs.Faults.{HeaderFine, header-fine, ChunkFine, chunk-fine, instr-fine}
 use borrow.Author.Tests.{lt-ltb, ltb-true, ltb-false, eqb-true, ne-eqb}
 use lib.ListN.{length}
 use lib.Dec.{eqb, ltb, leb}
@@ -17,9 +17,9 @@ use Rattle.definition.specs.declared.Step.{Step}
 use Rattle.definition.specs.declared.Step.the-variants.{Go, Stop}
 use Rattle.definition.specs.Module.{signedParams}
 use Rattle.definition.specs.Form.{nowhere, headerFault, chunkFault, instrFault, siteFault, tableFault, orStop, inField, pastHeader, headerStep, pastChunk, chunkStep, pastInstr, instrStep, placed, siteStep, soFar, tableStep, fieldStep}
-use Rattle.late.specs.Counted.{counted}
-use Rattle.codesteps.specs.Bounds.{Bounded}
-use Rattle.codesteps.proofs.Bounds.{so-far-le}
+use Rattle.form.specs.late_checks.Counted.{counted}
+use Rattle.form.specs.code_steps.Bounds.{Bounded}
+use Rattle.form.proofs.code_steps.Bounds.{so-far-le}
 
 -- ---- what a step leaves
 pub record After (s : List ℕ) (p : ℕ) (t u : Scan) : Type 0 where

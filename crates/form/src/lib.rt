@@ -1,24 +1,30 @@
-// The form checks: refusals 1 to 4, and the number of workspace words. One walk over the fields, in byte order; then the two late looks.
+// The form checks: refusals 1 to 5, and the number of workspace words. One walk over the fields, in byte order; then the two late looks.
 // Nothing is written. The scan takes a reader; every other caller has check_form.
+mod code_steps;
+mod field_steps;
+mod late_checks;
+pub mod room;
+
 use answers::Refusal;
 use answers::nowhere;
 use definition::Form;
 use definition::Scan;
 use definition::Step;
-use late::late_look;
-use reader::Reader;
-use reader::place_after;
-use reader::start;
-use steps::field_step;
+use description::reader::Reader;
+use description::reader::place_after;
+use description::reader::start;
+use field_steps::field_step;
+use late_checks::late_look;
+pub use room::check_room;
 ghost use mathlib.Core.Path.{_≡_};
 ghost use mathlib.Core.Bool.{true};
 ghost use Prim.Native.Nat.{_≤_, _^_};
 ghost use lib.ListN.{length};
 ghost use Rattle.description.specs.Fields.{fieldsFrom};
 ghost use Rattle.definition.specs.Form.{afterLook, finished, formOf};
-ghost use Rattle.reader.specs.Reading.{left};
-ghost use Rattle.late.specs.Counted.{counted};
-ghost use Rattle.codesteps.specs.Bounds.{Bounded};
+ghost use Rattle.description.specs.reader.Reading.{left};
+ghost use Rattle.form.specs.late_checks.Counted.{counted};
+ghost use Rattle.form.specs.code_steps.Bounds.{Bounded};
 
 fn after_look(late: Refusal, words: u64) -> Form
     ensures { λ r. ⌜ r ≡ afterLook late words ⌝ }

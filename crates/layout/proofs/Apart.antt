@@ -11,7 +11,7 @@ use borrow.Author.Tests.{ltb-true, ltb-false}
 use lib.Dec.{ltb}
 use lib.ListN.{length, getD}
 use Rattle.definition.specs.Module.{Module, Chunk}
-use Rattle.goodform.specs.Good.{noChunk, chunkNo, rowCells, chunkCells, cellsIn, wordsOf}
+use Rattle.form_laws.specs.Good.{noChunk, chunkNo, rowCells, chunkCells, cellsIn, wordsOf}
 use Rattle.layout.specs.Layout.{areaCells, cellsBefore, areaOf, numbersAt, slotAt, inputAt, resultAt, rowsAt, rowAt, placeAt, localAt}
 
 -- two numbers are one, or one of them is less

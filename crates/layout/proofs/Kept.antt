@@ -17,7 +17,7 @@ use Rattle.words.specs.Layout.{putCell}
 use Rattle.words.proofs.Laws.{length-putCell, putCell-out}
 use Rattle.ring.specs.Ring.{pushed}
 use Rattle.definition.specs.Module.{Module, moduleOf}
-use Rattle.goodform.specs.Good.{chunkNo, rowCells, wordsOf}
+use Rattle.form_laws.specs.Good.{chunkNo, rowCells, wordsOf}
 use Rattle.layout.specs.Layout.{areaCells, areaOf, numbersAt, slotAt, rowsAt, rowAt}
 use Rattle.layout.specs.Indexed.{Indexed, NumbersHold, suspendsAt, chunkAt}
 use Rattle.layout.proofs.Apart.{by-order, row-before, area-apart, areas-behind, slots-first, numbers-in, slots-in, rows-begin, row-begins, row-apart, row-in-area, row-in, rows-in-area, slots-behind}

@@ -12,9 +12,9 @@ use Rattle.description.specs.Fields.{fieldsFrom, ofTag, paramOf, resultOf, inst
 use Rattle.definition.specs.Module.{Line, lineOf, siteOf, nativeOf, moduleOf}
 use Rattle.definition.specs.Data.{isBody}
 use Rattle.definition.specs.Leaves.{streams}
-use Rattle.goodform.proofs.Chunks.{line-placed, place-in, line-in, tag-in}
-use Rattle.goodform.proofs.Placed.{param-placed, result-placed, natives-count, native-placed, shared-count, shared-placed}
-use Rattle.goodform.specs.Good.{Good, noShape, chunkNo, lineNo, rowCells}
+use Rattle.form_laws.proofs.Chunks.{line-placed, place-in, line-in, tag-in}
+use Rattle.form_laws.proofs.Placed.{param-placed, result-placed, natives-count, native-placed, shared-count, shared-placed}
+use Rattle.form_laws.specs.Good.{Good, noShape, chunkNo, lineNo, rowCells}
 use Rattle.layout.specs.declared.Tables.{Tables}
 use Rattle.layout.specs.declared.Chunk.{Chunk as ChunkNumbers}
 use Rattle.layout.specs.Layout.{numbersAt, slotAt, inputAt, resultAt, rowAt}

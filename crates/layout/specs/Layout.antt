@@ -4,7 +4,7 @@ use Prim.Native.Nat.{ℕ, zero, suc, _+_, _*_}
 use mathlib.Core.List.{List, [], _∷_}
 use lib.ListN.{length}
 use Rattle.definition.specs.Module.{Module, Chunk}
-use Rattle.goodform.specs.Good.{chunkNo, rowCells}
+use Rattle.form_laws.specs.Good.{chunkNo, rowCells}
 
 -- the cells of a chunk beside its cell of numbers
 unfoldable pub areaCells : Chunk → ℕ

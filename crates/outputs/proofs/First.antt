@@ -30,17 +30,17 @@ use Rattle.layout.specs.declared.Tables.{Tables}
 use Rattle.layout.specs.Layout.{resultAt, localAt}
 use Rattle.layout.specs.Indexed.{tablesOf, chunkAt, noNative}
 use Rattle.layout.proofs.Read.{locals-is, slots-are, natives-are, float-is}
-use Rattle.held.specs.declared.Visit.{Visit as Look}
-use Rattle.held.specs.Held.{Looking, argsIn, factsIn, visitIn}
-use Rattle.held.proofs.Visits.{args-are}
-use Rattle.making.specs.Making.{nativeBy}
-use Rattle.making.proofs.Making.{native-by}
-use Rattle.made.specs.Made.{secondBy, restBy}
-use Rattle.made.proofs.Made.{outputs-by}
-use Rattle.made.proofs.Made.{first-local as first-named}
-use Rattle.looking.proofs.Parts.{code-is, facts-are, ins-is, rule-is}
-use Rattle.ruled.proofs.Told.{namesSlots, makes-slots}
-use Rattle.ruled.proofs.Faults.{always-parts, named-end}
+use Rattle.visit.specs.declared.Visit.{Visit as Look}
+use Rattle.visit.specs.Held.{Looking, argsIn, factsIn, visitIn}
+use Rattle.visit.proofs.Visits.{args-are}
+use Rattle.new_values.specs.Making.{nativeBy}
+use Rattle.new_values.proofs.Making.{native-by}
+use Rattle.new_values.specs.results.Made.{secondBy, restBy}
+use Rattle.new_values.proofs.results.Made.{outputs-by}
+use Rattle.new_values.proofs.results.Made.{first-local as first-named}
+use Rattle.visit.proofs.operands.Parts.{code-is, facts-are, ins-is, rule-is}
+use Rattle.rule_laws.proofs.Told.{namesSlots, makes-slots}
+use Rattle.rule_laws.proofs.Faults.{always-parts, named-end}
 use Rattle.outputs.proofs.Parts.{named-in, callee-made, reply-made, result-is, local-there}
 
 -- ---- a native of the table, and one past it

@@ -20,16 +20,16 @@ use Rattle.definition.specs.Form.{fits, fitOf, local, callee}
 use Rattle.definition.specs.Outputs.{noCell, replyShape, replyCell}
 use Rattle.definition.specs.Leaves.{visitOf}
 use Rattle.definition.specs.Start.{isSite}
-use Rattle.goodform.specs.Good.{LineGood, chunkNo, lineNo}
-use Rattle.goodform.proofs.Each.{row-at}
+use Rattle.form_laws.specs.Good.{LineGood, chunkNo, lineNo}
+use Rattle.form_laws.proofs.Each.{row-at}
 use Rattle.layout.specs.declared.Chunk.{Chunk as ChunkNumbers}
 use Rattle.layout.specs.Layout.{resultAt, localAt}
 use Rattle.layout.specs.Indexed.{chunkAt, suspendsAt}
 use Rattle.layout.proofs.Apart.{local-in}
 use Rattle.layout.proofs.Read.{field-small, stack-is, locals-is, site-is}
-use Rattle.held.specs.declared.Visit.{Visit as Look}
-use Rattle.held.specs.Held.{Looking, knownIn, factsIn, stateOf, visitIn}
-use Rattle.ruled.proofs.Told.{makes-local, makes-reply, makes-result, sets-local, yields, call-is, call-callee}
+use Rattle.visit.specs.declared.Visit.{Visit as Look}
+use Rattle.visit.specs.Held.{Looking, knownIn, factsIn, stateOf, visitIn}
+use Rattle.rule_laws.proofs.Told.{makes-local, makes-reply, makes-result, sets-local, yields, call-is, call-callee}
 
 -- ---- the instruction's meaning
 local-meant : (op : ℕ) → op ≡ 1 → fitOf op .meaning ≡ local

@@ -10,8 +10,8 @@ use Rattle.ops.specs.declared.Data.{Data}
 use Rattle.ops.specs.declared.Data.the-variants.{OneSlot, ManySlots}
 use Rattle.definition.specs.Module.{Module, row}
 use Rattle.definition.specs.Data.{isBody, anyBody, slotCount, slotsFrom, crossed, dataFault}
-use Rattle.held.specs.declared.slots.Slots.{Slots}
-use Rattle.held.specs.Slots.{listOf}
+use Rattle.visit.specs.declared.slot_range.Slots.{Slots}
+use Rattle.visit.specs.Slots.{listOf}
 use Rattle.slots.specs.Slots.{crossedBy, accessFault}
 
 -- a test of the first slot, and then one of all

@@ -20,11 +20,11 @@ use Rattle.definition.specs.Module.{Module, row, moduleOf}
 use Rattle.definition.specs.State.{Facts}
 use Rattle.definition.specs.Data.{isBody, anyBody, sharedMask, slot, dataWidth, kindsIn, widthIn, flowIn, slotAllows}
 use Rattle.definition.specs.Wants.{require, meet, writeCheck}
-use Rattle.goodform.proofs.Each.{row-length, row-at}
+use Rattle.form_laws.proofs.Each.{row-length, row-at}
 use Rattle.layout.specs.Layout.{slotAt}
-use Rattle.held.specs.Held.{factsIn}
-use Rattle.held.specs.declared.slots.Slots.{Slots}
-use Rattle.held.specs.Slots.{listOf}
+use Rattle.visit.specs.Held.{factsIn}
+use Rattle.visit.specs.declared.slot_range.Slots.{Slots}
+use Rattle.visit.specs.Slots.{listOf}
 
 -- a list built element by element, up to e
 module _ {A : Type 0} (f : ℕ → A) (k e : ℕ) where

@@ -5,8 +5,8 @@ use lib.Dec.{ltb, leb}
 use lib.ListN.{length}
 use Rattle.definition.specs.Module.{Module}
 use Rattle.definition.specs.Data.{isBody, anyBody}
-use Rattle.held.specs.declared.slots.Slots.{Slots}
-use Rattle.held.specs.Slots.{listOf}
+use Rattle.visit.specs.declared.slot_range.Slots.{Slots}
+use Rattle.visit.specs.Slots.{listOf}
 
 unfoldable pub crossedBy : Module → Slots → Bool
 crossedBy m r = leb (length (m .shared)) (r .first) && (not (isBody m (r .first)) && anyBody m (listOf r))

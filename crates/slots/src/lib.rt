@@ -1,23 +1,26 @@
 // The four data instructions: the slots they name, and what stands there.
+mod crossing;
+
 use cells::Cell;
+pub use crossing::data_fault;
 use definition::Check;
 use flows::Flow;
 use flows::Owned;
-use held::Slots;
+use index::shared_kind;
+use index::shared_mask;
+use index::slot_placed;
 use layout::Tables;
 use layout::slot_at;
-use listed::shared_kind;
-use listed::shared_mask;
-use listed::slot_placed;
-use making::fresh;
-use making::read_private;
 use masks::Mask;
-use peek::mask_at;
+use new_values::fresh;
+use new_values::read_private;
+use visit::Slots;
 use wants::meet;
 use wants::require;
 use widths::Width;
 use widths::scalar_width;
 use words::load;
+use words::mask_at;
 ghost use mathlib.Core.Path.{_≡_};
 ghost use Prim.Native.Nat.{_≤_};
 ghost use Rattle.masks.specs.Names.{NONE};
@@ -27,8 +30,8 @@ ghost use Rattle.definition.specs.Module.{moduleOf};
 ghost use Rattle.definition.specs.Data.{slot, dataWidth, kindsIn, widthIn, flowIn, readSlots, slotAllows};
 ghost use Rattle.definition.specs.Wants.{writeCheck};
 ghost use Rattle.layout.specs.Indexed.{Indexed, tablesOf};
-ghost use Rattle.held.specs.Held.{factsIn};
-ghost use Rattle.held.specs.Slots.{listOf};
+ghost use Rattle.visit.specs.Held.{factsIn};
+ghost use Rattle.visit.specs.Slots.{listOf};
 
 // The kinds in a slot: a shared one's are declared, a private one's are worked out.
 fn slot_mask(s: &[u8], ws: &[u32], t: Tables, n: usize) -> Mask

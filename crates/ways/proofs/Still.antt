@@ -12,7 +12,7 @@ use Rattle.ops.specs.Ops.{ruleOf}
 use Rattle.definition.specs.Outputs.{Visit, arg, instr, outputs, setting}
 use Rattle.definition.specs.Ways.{narrowing, kept, afterBy, after, setLocals}
 use Rattle.definition.specs.Report.{isTest}
-use Rattle.ruled.proofs.Tests.{Testing, test-rule}
+use Rattle.rule_laws.proofs.Tests.{Testing, test-rule}
 
 narrows-tests : (x : Exit) (p : Predicate) (target to r : ℕ) → narrowing x p target to ≡ some r → isTest x ≡ true
 unfolding narrowing isTest

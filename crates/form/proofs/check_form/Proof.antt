@@ -36,19 +36,19 @@ use denote.Triple.Table.{entered, cited}
 use denote.Triple.Walked.{says, Stays, stay-none-slice, walkOf, goes-none-slice, Walks, ends-at, walked, walk-meets}
 use denote.Exit.{yes}
 use denote.Triple.Clauses.{ensured, lasts}
-use Rattle.reader.specs.Reading.{left}
-use Rattle.reader.proofs.Laws.{left-all}
+use Rattle.description.specs.reader.Reading.{left}
+use Rattle.description.proofs.reader.Laws.{left-all}
 use Rattle.definition.specs.Form.{formOf}
-use Rattle.reader.specs.declared.Reader.{Reader}
+use Rattle.description.specs.declared.reader.Reader.{Reader}
 use Rattle.definition.specs.declared.Form.{Form}
-use Rattle.reader.proofs.Reader as T
-use Rattle.reader.proofs.Reader.Laws as T′
+use Rattle.description.proofs.reader.Reader as T
+use Rattle.description.proofs.reader.Reader.Laws as T′
 use Rattle.definition.proofs.Form as S
 use Rattle.definition.proofs.Form.Laws as S′
-use Rattle.reader.proofs.start as start
-use Rattle.reader.proofs.start.Symbol as start-def
-use Rattle.reader.proofs.start.Symbol.{name as #reader·start}
-use Rattle.reader.proofs.start.Met as start-thm
+use Rattle.description.proofs.reader.start as start
+use Rattle.description.proofs.reader.start.Symbol as start-def
+use Rattle.description.proofs.reader.start.Symbol.{name as #description·reader·start}
+use Rattle.description.proofs.reader.start.Met as start-thm
 use Rattle.form.proofs.scan as scan
 use Rattle.form.proofs.scan.Symbol as scan-def
 use Rattle.form.proofs.scan.Symbol.{name as #form·scan}
@@ -120,7 +120,7 @@ module _ {M : Type 1} (𝓤 : URA M) (H : Heap 𝓤) (A : Atoms 𝓤) (W : Given
       suffices ! _ (ends-at 𝓤 H A check.ended stayed (check.clauses 𝓤 H A mem run) W (((κ, tt), (q, tt), tt, (s, tt), (v ∷ [], tt)), tt) u t (tt, tt) (tt, tt)) $ says ! e $
       move ! (1 ∷ []) $ frame ! $ nothing ! $ move ! (2 ∷ 0 ∷ []) $ fjoin ! $ frame ! $ done !
 
-  module _ (C : Calls 𝓤 H) (Λ : Loops 𝓤 H) (fm : FmC 𝓤 H (W .laws) C) (known-start : Triple 𝓤 (C #reader·start) (Start 𝓤 H A mem run)) (known-scan : Triple 𝓤 (C #form·scan) (Scan 𝓤 H A mem run)) where
+  module _ (C : Calls 𝓤 H) (Λ : Loops 𝓤 H) (fm : FmC 𝓤 H (W .laws) C) (known-start : Triple 𝓤 (C #description·reader·start) (Start 𝓤 H A mem run)) (known-scan : Triple 𝓤 (C #form·scan) (Scan 𝓤 H A mem run)) where
     walk : Is (ShrSlice (named 0) κ u8) s (v ∷ []) → ent 𝓤 (onEntry 𝓤 H A check.signature (κ, tt) (q, tt) (s, tt) (v ∷ [], tt)) (WpFn 𝓤 H C Λ code.function (v ∷ []) Post)
     walk p =
         qed W (raw (onEntry 𝓤 H A check.signature (κ, tt) (q, tt) (s, tt) (v ∷ [], tt)) ∷ []) ∵ enter ! C Λ code.function (v ∷ []) _ $
@@ -143,13 +143,13 @@ module _ {M : Type 1} (𝓤 : URA M) (H : Heap 𝓤) (A : Atoms 𝓤) (W : Given
         by ! (exits t u′ (e′ ∙ ap formOf (ap (λ (x : RefT (List ℕ)). left (now x) (r .at)) (e .0) ∙ ap (left (now s)) (e .1) ∙ left-all (now s)))))))))))))))
 
 module _ {M : Type 1} (𝓤 : URA M) (H : Heap 𝓤) (A : Atoms 𝓤) (W : Given 𝓤 H A) (mem : Memory → SProp 𝓤) (run : Routine → Fun 𝓤) where
-  check-form-walks : (C : Calls 𝓤 H) (Λ : Loops 𝓤 H) → FmC 𝓤 H (W .laws) C → Triple 𝓤 (C #reader·start) (Start 𝓤 H A mem run) → Triple 𝓤 (C #form·scan) (Scan 𝓤 H A mem run)
+  check-form-walks : (C : Calls 𝓤 H) (Λ : Loops 𝓤 H) → FmC 𝓤 H (W .laws) C → Triple 𝓤 (C #description·reader·start) (Start 𝓤 H A mem run) → Triple 𝓤 (C #form·scan) (Scan 𝓤 H A mem run)
       → Walks 𝓤 H A check.ended stayed (WpFn 𝓤 H C Λ code.function) (check.clauses 𝓤 H A mem run)
   check-form-walks C Λ fm known-start known-scan = walked 𝓤 H A check.ended stayed (check.clauses 𝓤 H A mem run) (WpFn 𝓤 H C Λ code.function) (λ κs. (slice-vals, tt)) (λ κs. (shr-slice-tells (named 0) (κs .0) u8, tt))
       (λ κs qs bounds a g are. via 𝓤 _ (fst∗ 𝓤 _ (emp 𝓤)) (walk 𝓤 H A W mem run (κs .0) (qs .0) (a .0) C Λ fm known-start known-scan (are .0)))
 
 check-form-meets : {M : Type 1} (𝓤 : URA M) (H : Heap 𝓤) (A : Atoms 𝓤) (W : Given 𝓤 H A) (mem : Memory → SProp 𝓤) (run : Routine → Fun 𝓤) (𝓣 : Tables 𝓤 H)
-    → Triple 𝓤 (𝓣 .C #reader·start) (Start 𝓤 H A mem run) → Triple 𝓤 (𝓣 .C #form·scan) (Scan 𝓤 H A mem run)
+    → Triple 𝓤 (𝓣 .C #description·reader·start) (Start 𝓤 H A mem run) → Triple 𝓤 (𝓣 .C #form·scan) (Scan 𝓤 H A mem run)
     → Meets 𝓤 H A check.signature (WpFn 𝓤 H (𝓣 .C) (𝓣 .Λ) code.function) (check.spec 𝓤 H A mem run)
 check-form-meets 𝓤 H A W mem run 𝓣 known-start known-scan = walk-meets 𝓤 H A check.ended stayed W (goes-none-slice 𝓤 H A W 1 (0 ∷ []) tt (plain (λ _. u8)) yes, tt) (check.clauses 𝓤 H A mem run) (WpFn 𝓤 H (𝓣 .C) (𝓣 .Λ) code.function) (WpFn-mono 𝓤 H (W .laws) 𝓣 code.function)
     (check-form-walks 𝓤 H A W mem run (𝓣 .C) (𝓣 .Λ) (fmOf 𝓤 H (W .laws) 𝓣) known-start known-scan)
@@ -160,5 +160,5 @@ check-form-spec 𝓤 H 𝓜 𝓖 𝓡 =
     entered 𝓤 H (tripleOf 𝓤 H (𝓖 .A) check.signature (check.spec 𝓤 H (𝓖 .A) (𝓜 .mem) (𝓡 .run)))
     (tables 𝓤 H 𝓜 𝓡 code.env .C) (tables 𝓤 H 𝓜 𝓡 code.env .Λ) #form·check-form code.function (code.unfolded 𝓤 H 𝓜 𝓡)
     (check-form-meets 𝓤 H (𝓖 .A) (givenOf 𝓤 H 𝓜 𝓖) (𝓜 .mem) (𝓡 .run) (tablesOf 𝓤 H 𝓜 (tables 𝓤 H 𝓜 𝓡 code.env))
-    (cited 𝓤 H (Start 𝓤 H (𝓖 .A) (𝓜 .mem) (𝓡 .run)) 𝓜 𝓡 code.env #reader·start start-def.routine code.calls-reader·start (start-thm.met 𝓤 H 𝓜 𝓖 𝓡))
+    (cited 𝓤 H (Start 𝓤 H (𝓖 .A) (𝓜 .mem) (𝓡 .run)) 𝓜 𝓡 code.env #description·reader·start start-def.routine code.calls-description·reader·start (start-thm.met 𝓤 H 𝓜 𝓖 𝓡))
     (cited 𝓤 H (Scan 𝓤 H (𝓖 .A) (𝓜 .mem) (𝓡 .run)) 𝓜 𝓡 code.env #form·scan scan-def.routine code.calls-form·scan (scan-thm.met 𝓤 H 𝓜 𝓖 𝓡)))

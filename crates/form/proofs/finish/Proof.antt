@@ -1,6 +1,6 @@
 -- `form::finish` meets its contract.
 use Rattle.definition.specs.Form.{finished}
-use Rattle.late.specs.Counted.{paramList}
+use Rattle.form.specs.late_checks.Counted.{paramList}
 use borrow.Author.Needs.{needs}
 use Rattle.form.proofs.finish.Statement.{statement}
 use Rattle.form.proofs.finish.Tie as tie

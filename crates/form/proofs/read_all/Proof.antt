@@ -5,7 +5,7 @@ use native.Mathlib.Omega.{arith}
 use borrow.Author.Needs.{needs}
 use borrow.Author.Tests.{lt-ltb}
 use lib.ListN.{length}
-use Rattle.reader.proofs.Laws.{after-less}
+use Rattle.description.proofs.reader.Laws.{after-less}
 use Rattle.definition.specs.Form.{formOf}
 use Rattle.form.proofs.Within.{widen}
 use Rattle.form.proofs.Walk.{Walking, walk-start, walk-go, walk-stop, walk-end, walk-counted}

@@ -37,15 +37,15 @@ use denote.Triple.Table.{entered, cited}
 use denote.Triple.Walked.{says, Stays, stay-none, walkOf, goes-none, Walks, ends-at, walked, walk-meets}
 use denote.Exit.{yes}
 use denote.Triple.Clauses.{ensured, lasts}
-use Rattle.reader.specs.Reading.{left}
+use Rattle.description.specs.reader.Reading.{left}
 use Rattle.definition.specs.Form.{formOf}
-use Rattle.reader.specs.declared.Reader.{Reader}
+use Rattle.description.specs.declared.reader.Reader.{Reader}
 use Rattle.definition.specs.declared.Form.{Form}
-use Rattle.reader.proofs.Reader as T
-use Rattle.reader.proofs.Reader.Laws as T′
+use Rattle.description.proofs.reader.Reader as T
+use Rattle.description.proofs.reader.Reader.Laws as T′
 use Rattle.definition.proofs.Form as S
 use Rattle.definition.proofs.Form.Laws as S′
-use Rattle.reader.proofs.Apart.{B, apart}
+use Rattle.description.proofs.reader.Apart.{B, apart}
 use Rattle.form.proofs.scan_from as step
 use Rattle.form.proofs.scan_from.Symbol as step-def
 use Rattle.form.proofs.scan_from.Symbol.{name as #form·scan-from}

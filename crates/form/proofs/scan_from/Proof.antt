@@ -1,7 +1,7 @@
 -- `form::scan_from` meets its contract.
 use mathlib.Core.Path.{ap, _∙_}
 use borrow.Author.Needs.{needs}
-use Rattle.reader.proofs.Laws.{left-part, left-end}
+use Rattle.description.proofs.reader.Laws.{left-part, left-end}
 use Rattle.definition.specs.Form.{formOf}
 use Rattle.form.proofs.scan_from.Statement.{statement}
 use Rattle.form.proofs.scan_from.Tie as tie

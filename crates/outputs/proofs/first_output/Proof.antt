@@ -2,7 +2,7 @@
 use native.Mathlib.Omega.{arith}
 use mathlib.Core.Path.{sym, ap, _∙_}
 use Rattle.definition.specs.Outputs.{firstOutput}
-use Rattle.held.proofs.Visits.{looking-standing}
+use Rattle.visit.proofs.Visits.{looking-standing}
 use Rattle.outputs.proofs.Parts.{field-room, callee-in, callee-made, named-in, local-room, local-small}
 use Rattle.outputs.proofs.First.{first-anything, first-constant, first-immediate, first-local, first-operand, first-operand-mask, first-reply, first-result, first-common, first-kind, first-negation, first-one-kind, first-slots, first-composite, first-part, first-native, slots-there}
 use borrow.Author.Needs.{needs}

@@ -11,8 +11,8 @@ use Rattle.words.specs.Layout.{cellAt}
 use Rattle.definition.specs.Module.{moduleOf}
 use Rattle.definition.specs.Data.{flowIn}
 use Rattle.layout.proofs.Read.{slot-known}
-use Rattle.held.specs.Held.{factsIn}
-use Rattle.held.specs.Slots.{listOf}
+use Rattle.visit.specs.Held.{factsIn}
+use Rattle.visit.specs.Slots.{listOf}
 use Rattle.slots.proofs.Walk.{from, from-first, flow-turn, flow-end, flow-here}
 use Rattle.slots.proofs.flow_in.Statement.{statement}
 use Rattle.slots.proofs.flow_in.Tie as tie

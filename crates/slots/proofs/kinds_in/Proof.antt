@@ -9,8 +9,8 @@ use Rattle.masks.specs.Mask.{union}
 use Rattle.masks.specs.Names.{NONE}
 use Rattle.definition.specs.Module.{moduleOf}
 use Rattle.definition.specs.Data.{kindsIn}
-use Rattle.held.specs.Held.{factsIn}
-use Rattle.held.specs.Slots.{listOf}
+use Rattle.visit.specs.Held.{factsIn}
+use Rattle.visit.specs.Slots.{listOf}
 use Rattle.slots.proofs.Walk.{from, from-first, kinds-turn, kinds-end}
 use Rattle.slots.proofs.kinds_in.Statement.{statement}
 use Rattle.slots.proofs.kinds_in.Tie as tie

@@ -8,8 +8,8 @@ use Rattle.widths.specs.declared.Width.{Width}
 use Rattle.widths.specs.Width.{joinWidth}
 use Rattle.definition.specs.Module.{moduleOf}
 use Rattle.definition.specs.Data.{widthIn, dataWidth}
-use Rattle.held.specs.Held.{factsIn}
-use Rattle.held.specs.Slots.{listOf}
+use Rattle.visit.specs.Held.{factsIn}
+use Rattle.visit.specs.Slots.{listOf}
 use Rattle.slots.proofs.Walk.{from, from-first, width-turn, width-end}
 use Rattle.slots.proofs.width_in.Statement.{statement}
 use Rattle.slots.proofs.width_in.Tie as tie

@@ -8,8 +8,8 @@ use Rattle.definition.specs.declared.Check.{Check}
 use Rattle.definition.specs.declared.Check.the-variants.{Fine}
 use Rattle.definition.specs.Module.{moduleOf}
 use Rattle.definition.specs.Wants.{require, meet, writeCheck}
-use Rattle.held.specs.Held.{factsIn}
-use Rattle.held.specs.Slots.{listOf}
+use Rattle.visit.specs.Held.{factsIn}
+use Rattle.visit.specs.Slots.{listOf}
 use Rattle.slots.proofs.Walk.{from, from-first, write-turn, write-end}
 use Rattle.slots.proofs.write_check.Statement.{statement}
 use Rattle.slots.proofs.write_check.Tie as tie

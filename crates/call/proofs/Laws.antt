@@ -1,0 +1,87 @@
+-- Each way through the call comes to what the definition says.
+use Prim.Native.Nat.{ℕ, _-_, _<_, _≤_}
+use native.Mathlib.Omega.{arith}
+use mathlib.Core.Path.{_≡_, refl, sym, ap, _∙_}
+use mathlib.Core.Bool.{Bool, true, false, cond}
+use mathlib.Core.List.{List}
+use lib.Dec.{leb}
+use lib.ListN.{length, getD, replicate}
+use Rattle.answers.specs.declared.Refusal.{Refusal}
+use Rattle.answers.specs.declared.Answer.{Answer}
+use Rattle.answers.specs.declared.Answer.the-variants.{Refused}
+use Rattle.answers.specs.Answers.{numbers}
+use Rattle.definition.specs.declared.Form.{Form}
+use Rattle.definition.specs.declared.Form.the-variants.{Fine}
+use Rattle.definition.specs.declared.Form.the-variants.{Refused as Malformed}
+use Rattle.definition.specs.Form.{formOf, nowhere}
+use Rattle.definition.specs.Module.{moduleOf}
+use Rattle.definition.specs.Call.{turned, decided, decide, turnedBack, outcomeOf, call}
+use Rattle.form_laws.specs.Good.{Good, wordsOf}
+use Rattle.form_laws.proofs.Theorem.{good-form}
+use Rattle.run_state.specs.Course.{roomIn}
+use Rattle.consistent.proofs.Bytes.{demand-3}
+use Rattle.refusal_laws.proofs.Forms.{form-numbers}
+use Rattle.refusal_laws.proofs.Left.{left-as-was, decided-zero}
+use Rattle.form.specs.room.Room.{roomBy, withRoom, roomOf}
+use Rattle.form.proofs.room.Decides.{onRoom, room-decides, room-fine}
+use Rattle.words.specs.clearing.Clearing.{cleared}
+use Rattle.words.proofs.clearing.Clearing.{cleared-all}
+use Rattle.call.specs.analyzing.Told.{Told}
+use Rattle.call.proofs.analyzing.Laws.{short-refused}
+use Rattle.call.specs.Checked.{Checked}
+
+-- ---- the whole call
+-- what there is to work with
+pub good-room : (s ws : List ℕ) (f : Form) (w : ℕ) → f ≡ roomOf s (length ws) → f ≡ Fine w → Good s w × (w < length ws) × (wordsOf (moduleOf s) < length ws)
+good-room s ws f w h e =
+    let q = room-fine s (length ws) w (sym h ∙ e) in
+    let g = good-form s w (q .0) in
+    (g, q .1, omega (arith, g .words, q .1))
+
+module _ (s ws buf : List ℕ) (limit : ℕ) where
+  -- refusals 1 to 5
+  few : (words : ℕ) (f : Form) (r : Refusal) → ((q : Refusal) → f ≡ Malformed q → q .number ≤ 4) → roomBy f words ≡ Malformed r → r .number < 6
+  unfolding roomBy withRoom
+  few words (Malformed q) r h e = let z : q ≡ r = cc in omega (arith, h q refl, ap (λ (x : Refusal). x .number) z)
+  few words (Fine w) r h e = go (leb words w) e
+    where
+      go : (b : Bool) → cond b (Malformed (nowhere 5 0)) (Fine w) ≡ Malformed r → r .number < 6
+      go true e = let z : nowhere 5 0 ≡ r = cc in omega (arith, ap (λ (x : Refusal). x .number) z)
+      go false e = absurd (let z : _≡_ {A = ℕ} 0 1 = cc in omega arith)
+
+  room-number : (r : Refusal) → roomOf s (length ws) ≡ Malformed r → r .number < 6
+  unfolding roomOf
+  room-number r e = few (length ws) (formOf s) r (λ q h. form-numbers s q h .1) e
+
+  -- demand 3 follows from the rest
+  checked : (r : Answer) (buf′ ws′ : List ℕ) → r ≡ call s ws buf limit .answer → buf′ ≡ call s ws buf limit .report → ws′ ≡ call s ws buf limit .workspace → getD (numbers r) 4 0 < 4294967296
+      → Checked s ws buf limit r buf′ ws′
+  checked r buf′ ws′ a b w n =
+      record {
+        answer = a;
+        said = ap numbers a;
+        report = b;
+        workspace = w;
+        short = n;
+        consistent = λ long steps e. rw b (demand-3 s ws buf limit long steps (sym a ∙ e));
+      }
+
+  pub checked-refused : (f : Form) (r : Refusal) → f ≡ roomOf s (length ws) → f ≡ Malformed r → Checked s ws buf limit (Refused r) buf ws
+  unfolding call onRoom outcomeOf turnedBack
+  checked-refused f r h e =
+      let q : roomOf s (length ws) ≡ Malformed r = sym h ∙ e in
+      let d : decide s (length ws) limit ≡ turned r = room-decides s (length ws) limit ∙ ap (onRoom s (length ws) limit) q in
+      checked (Refused r) buf ws (rw d) (rw d) (rw d (sym (left-as-was (r .number) ws (room-number r q)))) (short-refused r)
+
+  pub checked-ran : (f : Form) (w : ℕ) (v ws′ buf′ : List ℕ) (r : Answer) → f ≡ roomOf s (length ws) → f ≡ Fine w → length v ≡ length ws
+      → Told (decided (moduleOf s) (roomIn s v) limit) buf r buf′ → (u : List ℕ) → length u ≡ length ws → ws′ ≡ cleared u (length ws) → Checked s ws buf limit r buf′ ws′
+  unfolding call onRoom
+  checked-ran f w v ws′ buf′ r h e l t u k c =
+      let q : roomOf s (length ws) ≡ Fine w = sym h ∙ e in
+      let g = good-room s ws f w h e .0 in
+      let z : roomIn s v ≡ length ws - w = omega (arith, g .words) in
+      let d : decide s (length ws) limit ≡ decided (moduleOf s) (roomIn s v) limit =
+      room-decides s (length ws) limit ∙ ap (onRoom s (length ws) limit) q ∙ ap (λ (n : ℕ). decided (moduleOf s) n limit) (sym z) in
+      checked r buf′ ws′ (rw d (t .same ws .0)) (rw d (t .same ws .1))
+      (rw d (c ∙ ap (cleared u) (sym k) ∙ cleared-all u ∙ ap (λ (n : ℕ). replicate n 0) k ∙ sym (decided-zero (moduleOf s) (roomIn s v) limit ws buf)))
+      (t .short)

@@ -1,1 +1,0 @@
-// What a run keeps: see specs/.

@@ -1,0 +1,2 @@
+pub mod refusals
+pub mod asked

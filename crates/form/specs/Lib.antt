@@ -1,0 +1,3 @@
+pub mod late_checks
+pub mod code_steps
+pub mod room

@@ -1,0 +1,107 @@
+-- What good form says of the module: W is document 01's sum, the numbers keep their largest values, every instruction fits, and the tables
+-- of natives and shared slots have fields of one size from their first on.
+use Prim.Native.Nat.{ℕ, _+_, _*_, _<_, _≤_}
+use mathlib.Core.Path.{_≡_}
+use mathlib.Core.Bool.{true, false}
+use mathlib.Core.List.{List, [], _∷_}
+use lib.ListN.{length, getD}
+use Rattle.widths.specs.declared.Shape.{Shape}
+use Rattle.description.specs.Fields.{tagAt, nextAt, headerOf, fieldsFrom, ofTag}
+use Rattle.definition.specs.Module.{Module, Chunk, Line, moduleOf}
+use Rattle.definition.specs.Form.{fitOf, local, callee, senseless, tooLarge}
+use Rattle.definition.specs.Leaves.{noLine}
+use Rattle.definition.specs.Start.{isSite}
+use Rattle.form_laws.specs.Order.{ordered}
+
+-- the shape and the chunk that are not there
+abbrev pub noShape : Shape
+noShape = record { tag = 0; kind = 0; width = 0; size = 0 }
+
+unfoldable pub noChunk : Chunk
+noChunk =
+    record {
+      number = 0;
+      reachable = false;
+      block = 0;
+      locals = 0;
+      stack = 0;
+      arity = 0;
+      tags = [];
+      params = [];
+      result = noShape;
+      code = [];
+    }
+
+unfoldable pub chunkNo : Module → ℕ → Chunk
+chunkNo m n = getD (m .chunks) n noChunk
+
+unfoldable pub lineNo : Chunk → ℕ → Line
+lineNo c i = getD (c .code) i noLine
+
+-- ---- W
+abbrev pub rowCells : Chunk → ℕ
+rowCells c = c .locals + c .stack + 6
+
+unfoldable pub chunkCells : Chunk → ℕ
+chunkCells c = length (c .code) * rowCells c + length (c .params) + 2
+
+unfoldable pub cellsIn : List Chunk → ℕ
+cellsIn [] = 0
+cellsIn (c ∷ cs) = chunkCells c + cellsIn cs
+
+unfoldable pub wordsOf : Module → ℕ
+wordsOf m = 16 * (cellsIn (m .chunks) + m .slots + 4)
+
+-- ---- an instruction that fits its module and chunk
+pub record LineGood (m : Module) (c : Chunk) (x : Line) : Type 0 where
+  pub op : x .instr .op ≤ 65
+  pub taken : x .instr .taken ≤ 64
+  pub given : x .instr .given ≤ 4
+  pub takenLeast : fitOf (x .instr .op) .takenLeast ≤ x .instr .taken
+  pub takenMost : x .instr .taken ≤ fitOf (x .instr .op) .takenMost
+  pub givenLeast : fitOf (x .instr .op) .givenLeast ≤ x .instr .given
+  pub givenMost : x .instr .given ≤ fitOf (x .instr .op) .givenMost
+  pub sense : senseless (fitOf (x .instr .op) .meaning) (x .instr) ≡ false
+  pub narrow : tooLarge (fitOf (x .instr .op) .meaning) (x .instr) ≡ false
+  pub local : fitOf (x .instr .op) .meaning ≡ local → x .instr .a < c .locals
+  pub callee : fitOf (x .instr .op) .meaning ≡ callee → x .instr .a < m .signatures
+  -- the late looks
+  pub call : x .instr .op ≡ 30 → x .instr .taken ≤ length (chunkNo m (x .instr .a) .params)
+  pub yields : x .instr .op ≡ 32 → isSite (x .site) ≡ true
+
+pub record ChunkGood (m : Module) (n : ℕ) (c : Chunk) : Type 0 where
+  pub number : c .number ≡ n
+  pub block : c .block ≤ 2
+  pub locals : c .locals ≤ 256
+  pub stack : c .stack ≤ 64
+  pub arity : c .arity ≤ 16
+  pub tags : length (c .tags) ≤ 16
+  pub params : length (c .params) ≤ 16
+  pub inLocals : length (c .params) ≤ c .locals
+  pub unsigned : m .signatures ≤ n → length (c .params) ≡ 0
+  pub code : length (c .code) ≤ 4096
+  pub lines : (i : ℕ) → i < length (c .code) → LineGood m c (lineNo c i)
+
+pub record Good (s : List ℕ) (w : ℕ) : Type 0 where
+  pub long : length s ≤ 1048576
+  -- the header stands first
+  pub some-bytes : 0 < length s
+  pub header : tagAt s 0 ≡ 1
+  pub next : nextAt s 0 ≡ 18
+  -- each field stands where the form check wants it
+  pub order : ordered s 0 (fieldsFrom s 0) ≡ true
+  pub float : headerOf s 0 .float ≤ 31
+  pub chunks : length (moduleOf s .chunks) ≡ headerOf s 0 .chunks
+  pub chunksMost : length (moduleOf s .chunks) ≤ 64
+  pub signatures : moduleOf s .signatures ≤ length (moduleOf s .chunks)
+  pub entry : moduleOf s .entry < moduleOf s .signatures
+  pub slots : moduleOf s .slots ≤ 1024
+  pub natives : length (moduleOf s .natives) ≤ 256
+  pub shared : length (moduleOf s .shared) ≤ 1024
+  pub inits : length (moduleOf s .inits) ≤ 1024
+  pub words : w ≡ wordsOf (moduleOf s)
+  pub small : w < 4294967296
+  pub eachChunk : (n : ℕ) → n < length (moduleOf s .chunks) → ChunkGood (moduleOf s) n (chunkNo (moduleOf s) n)
+  -- fields of one size, from the first on
+  pub nativeAt : (k : ℕ) → k < length (moduleOf s .natives) → getD (ofTag 5 s (fieldsFrom s 0)) k 0 ≡ getD (ofTag 5 s (fieldsFrom s 0)) 0 0 + 11 * k
+  pub sharedAt : (k : ℕ) → k < length (moduleOf s .shared) → getD (ofTag 6 s (fieldsFrom s 0)) k 0 ≡ getD (ofTag 6 s (fieldsFrom s 0)) 0 0 + 4 * k

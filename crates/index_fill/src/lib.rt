@@ -1,0 +1,305 @@
+// The index of a description of good form, filled in one walk over its fields.
+mod model;
+
+use description::chunk_at;
+use description::header_at;
+use description::next_at;
+use description::params_of;
+use description::reader::second;
+use description::tag_at;
+use layout::Chunk;
+use layout::Tables;
+use layout::numbers_at;
+use layout::slot_at;
+use le::u8_at;
+use le::u16_at;
+use masks::Mask;
+pub use model::Work;
+use words::clear;
+ghost use mathlib.Core.Path.{_≡_};
+ghost use mathlib.Core.Bool.{cond};
+ghost use Prim.Native.Nat.{ℕ, _+_, _*_, _<_, _≤_, _^_};
+ghost use lib.Dec.{eqb};
+ghost use lib.ListN.{length, getD};
+ghost use Rattle.words.specs.Layout.{putN};
+ghost use Rattle.description.specs.Fields.{headerOf};
+ghost use Rattle.definition.specs.Module.{signedParams, initOf};
+ghost use Rattle.form_laws.specs.Good.{Good};
+ghost use Rattle.layout.specs.Indexed.{bit, Indexed, Fresh, tablesOf};
+ghost use Rattle.index_fill.specs.model.Model.{firstTables, firstWork, numbersOf, numberWords, chunkWords, chunkWork, instrWords, instrWork, codeWords, codeWork, markWords, initWords, slotWords, tablesAfter};
+ghost use Rattle.index_fill.specs.Fits.{Small, ForChunk, ForInstr, ForCode, ForSlots};
+
+// ---- before the first field
+fn first_tables(s: &[u8], queue: usize) -> Tables
+    requires { ⌜ Good (now s) queue ⌝ }
+    ensures { λ r. ⌜ r ≡ firstTables (now (s .entry)) queue ⌝ }
+{
+    let h = header_at(s, 0);
+    Tables {
+        chunks: h.chunks as usize,
+        signatures: h.signatures as usize,
+        entry: h.entry as usize,
+        slots: h.slots as usize,
+        float: (1u32 << h.float) / 8,
+        owns: h.owns == 1,
+        layout: h.layout == 1,
+        natives_at: 0,
+        natives: 0,
+        shared_at: 0,
+        shared: 0,
+        inits: 0,
+        past_placed: false,
+        queue_at: queue,
+    }
+}
+
+fn first_work(t: Tables) -> Work
+    requires { ⌜ (t .chunks ≤ 64) × (t .slots ≤ 1024) ⌝ }
+    ensures { λ r. ⌜ r ≡ firstWork t ⌝ }
+{
+    Work {
+        seen: 0,
+        numbers: 0,
+        instrs: 0,
+        free: 64 + 16 * (t.chunks + t.slots),
+        size: 0,
+    }
+}
+
+// ---- tags 2 to 4: the chunks
+fn params_in(s: &[u8], p: usize, signed: bool) -> usize
+    requires { ⌜ p < 2 ^ 62 ⌝ }
+    ensures { λ r. ⌜ r ≡ signedParams (now (s .entry)) p signed ⌝ }
+{
+    if signed { params_of(s, p) as usize } else { 0 }
+}
+
+// The numbers of the chunk whose field is at p, before its first instruction.
+fn numbers_of(s: &[u8], p: usize, t: Tables, w: Work) -> Chunk
+    requires { ⌜ ForChunk (now s) p t w (2 ^ 64) ⌝ }
+    ensures { λ r. ⌜ (r ≡ numbersOf (now (s .entry)) p t w) × Small r ⌝ }
+{
+    let h = chunk_at(s, p);
+    let locals = h.locals as usize;
+    let stack = h.stack as usize;
+    let params = params_in(s, p, w.seen < t.signatures);
+    Chunk {
+        at: p,
+        rows: w.free + 16 * (params + 1),
+        count: 0,
+        locals,
+        stack,
+        reachable: h.reachable == 1,
+        suspends: false,
+        inputs: w.free,
+        params,
+        streams: (w.seen == t.entry) & ((h.block == 2) & (0 < h.arity)),
+        size: 16 * (locals + stack + 6),
+    }
+}
+
+fn number(b: bool) -> u32
+    ensures { λ r. ⌜ r ≡ bit b ⌝ }
+{
+    if b { 1 } else { 0 }
+}
+
+fn number_words(c: Chunk) -> [u32; 10]
+    requires { ⌜ Small c ⌝ }
+    ensures { λ r. ⌜ r ≡ numberWords c ⌝ }
+{
+    [
+        c.at as u32,
+        c.rows as u32,
+        c.count as u32,
+        c.locals as u32,
+        c.stack as u32,
+        number(c.reachable),
+        number(c.suspends),
+        c.inputs as u32,
+        c.params as u32,
+        number(c.streams),
+    ]
+}
+
+fn put10(ws: &mut [u32], at: usize, a: [u32; 10])
+    requires { ⌜ at + 10 ≤ length (now ws) ⌝ }
+    ensures { λ r. ⌜ now (ws .exit) ≡ putN (now (ws .entry)) at a 10 ⌝ }
+{
+    let mut k = 0;
+    while k < 10 {
+        ws[at + k] = a[k];
+        k += 1;
+    }
+}
+
+fn fill_chunk(s: &[u8], ws: &mut [u32], p: usize, t: Tables, w: Work) -> Work
+    requires { ⌜ ForChunk (now s) p t w (length (now ws)) ⌝ }
+    ensures { λ r. ⌜
+        (r ≡ chunkWork (now (s .entry)) p t w)
+        × (now (ws .exit) ≡ chunkWords (now (s .entry)) p t w (now (ws .entry)))
+        ⌝ }
+{
+    let c = numbers_of(s, p, t, w);
+    let n = numbers_at(w.seen);
+    put10(ws, n, number_words(c));
+    Work {
+        seen: w.seen + 1,
+        numbers: n,
+        instrs: 0,
+        free: c.rows,
+        size: c.size,
+    }
+}
+
+// The place of the instruction's field stands in its row.
+fn fill_instr(ws: &mut [u32], p: usize, w: Work) -> Work
+    requires { ⌜ ForInstr p w (length (now ws)) ⌝ }
+    ensures { λ r. ⌜ (r ≡ instrWork w) × (now (ws .exit) ≡ instrWords p w (now (ws .entry))) ⌝ }
+{
+    let row = w.free + 1;
+    let count = w.numbers + 2;
+    ws[row] = p as u32;
+    ws[count] = (w.instrs + 1) as u32;
+    Work {
+        seen: w.seen,
+        numbers: w.numbers,
+        instrs: w.instrs + 1,
+        free: w.free + w.size,
+        size: w.size,
+    }
+}
+
+// A chunk with a dialogue site suspends.
+fn fill_code(tag: u8, s: &[u8], ws: &mut [u32], p: usize, t: Tables, w: Work) -> Work
+    requires { ⌜ ForCode tag (now s) p t w (length (now ws)) ⌝ }
+    ensures { λ r. ⌜
+        (r ≡ codeWork tag (now (s .entry)) p t w)
+        × (now (ws .exit) ≡ codeWords tag (now (s .entry)) p t w (now (ws .entry)))
+        ⌝ }
+{
+    match tag {
+        2 => fill_chunk(s, ws, p, t, w),
+        3 => fill_instr(ws, p, w),
+        4 => {
+            let at = w.numbers + 6;
+            ws[at] = 1;
+            w
+        }
+        _ => w,
+    }
+}
+
+// ---- tags 7 and 8: the slots
+// The mark of a placement stands above the writes of a round.
+fn mark(ws: &mut [u32], t: Tables, slot: usize)
+    requires { ⌜ ForSlots t (length (now ws)) ⌝ }
+    ensures { λ r. ⌜ now (ws .exit) ≡ markWords t slot (now (ws .entry)) ⌝ }
+{
+    if slot < t.slots {
+        let at = slot_at(t, slot) + 15;
+        ws[at] = 65536;
+    }
+}
+
+// The initializer gives the private mask of the slot, if there is one.
+fn init(ws: &mut [u32], t: Tables, m: Mask)
+    requires { ⌜ ForSlots t (length (now ws)) ⌝ }
+    ensures { λ r. ⌜ now (ws .exit) ≡ initWords t m (now (ws .entry)) ⌝ }
+{
+    let slot = t.shared + t.inits;
+    if slot < t.slots {
+        let at = slot_at(t, slot);
+        ws[at] = m.bits as u32;
+    }
+}
+
+fn init_mask(s: &[u8], p: usize) -> Mask
+    requires { ⌜ p < 2 ^ 62 ⌝ }
+    ensures { λ r. ⌜ r ≡ initOf (now (s .entry)) p ⌝ }
+{
+    Mask::constant(u8_at(s, p + 3), u8_at(s, p + 4) == 1)
+}
+
+fn fill_slot(tag: u8, s: &[u8], ws: &mut [u32], p: usize, t: Tables)
+    requires { ⌜ (p < 2 ^ 62) × ForSlots t (length (now ws)) ⌝ }
+    ensures { λ r. ⌜ now (ws .exit) ≡ slotWords tag (now (s .entry)) p t (now (ws .entry)) ⌝ }
+{
+    match tag {
+        7 => mark(ws, t, u16_at(s, p + 3) as usize),
+        8 => init(ws, t, init_mask(s, p)),
+        _ => {}
+    }
+}
+
+// ---- tags 5 to 8: the tables
+fn first_at(count: usize, p: usize, at: usize) -> usize
+    ensures { λ r. ⌜ r ≡ cond (eqb count 0) p at ⌝ }
+{
+    if count == 0 { p } else { at }
+}
+
+fn tables_after(tag: u8, s: &[u8], p: usize, t: Tables) -> Tables
+    requires { ⌜ (p < 2 ^ 62) × (t .natives < 2 ^ 32) × (t .shared < 2 ^ 32) × (t .inits < 2 ^ 32) ⌝ }
+    ensures { λ r. ⌜ r ≡ tablesAfter tag (now (s .entry)) p t ⌝ }
+{
+    let mut u = t;
+    match tag {
+        5 => {
+            u.natives_at = first_at(t.natives, p, t.natives_at);
+            u.natives = t.natives + 1;
+            u
+        }
+        6 => {
+            u.shared_at = first_at(t.shared, p, t.shared_at);
+            u.shared = t.shared + 1;
+            u
+        }
+        7 => {
+            u.past_placed = t.past_placed | ((u16_at(s, p + 3) as usize) == t.slots);
+            u
+        }
+        8 => {
+            u.inits = t.inits + 1;
+            u
+        }
+        _ => t,
+    }
+}
+
+// The walk, where the words of the slots are 0.
+fn walk(s: &[u8], ws: &mut [u32], queue: usize) -> Tables
+    requires { ⌜ Good (now s) queue ⌝ }
+    requires { ⌜ queue ≤ length (now ws) ⌝ }
+    requires { ⌜ ((k : ℕ) → k < 64 + 16 * (headerOf (now s) 0 .chunks + headerOf (now s) 0 .slots) → getD (now ws) k 0 ≡ 0) ⌝ }
+    ensures { λ r. ⌜
+        (r ≡ tablesOf (now (s .entry))) × Indexed (now (s .entry)) (now (ws .exit)) × Fresh (now (s .entry)) (now (ws .exit))
+        × (length (now (ws .exit)) ≡ length (now (ws .entry)))
+        ⌝ }
+{
+    let mut t = first_tables(s, queue);
+    let mut w = first_work(t);
+    let mut at = second(s);
+    while at < s.len() {
+        let tag = tag_at(s, at);
+        w = fill_code(tag, s, ws, at, t, w);
+        fill_slot(tag, s, ws, at, t);
+        t = tables_after(tag, s, at, t);
+        at = next_at(s, at);
+    }
+    t
+}
+
+// The index of a description of good form, in words that hold anything.
+pub fn fill(s: &[u8], ws: &mut [u32], queue: usize) -> Tables
+    requires { ⌜ Good (now s) queue ⌝ }
+    requires { ⌜ queue ≤ length (now ws) ⌝ }
+    ensures { λ r. ⌜
+        (r ≡ tablesOf (now (s .entry))) × Indexed (now (s .entry)) (now (ws .exit)) × Fresh (now (s .entry)) (now (ws .exit))
+        × (length (now (ws .exit)) ≡ length (now (ws .entry)))
+        ⌝ }
+{
+    let h = header_at(s, 0);
+    clear(ws, 64 + 16 * ((h.chunks as usize) + (h.slots as usize)));
+    walk(s, ws, queue)
+}

@@ -1,0 +1,13 @@
+pub mod Bind
+pub mod Moves
+pub mod Steps
+pub mod Settle
+pub mod Same
+pub mod Reach
+pub mod Sweep
+pub mod Sound
+pub mod Takings
+pub mod Limits
+pub mod Queued
+pub mod All
+pub mod Carry

@@ -1,5 +1,0 @@
-pub mod Reporting
-pub mod Span
-pub mod Adds
-pub mod Here
-pub mod Measured

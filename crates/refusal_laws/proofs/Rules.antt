@@ -1,0 +1,81 @@
+-- What a module is refused by: 7 to 18.
+use Prim.Native.Nat.{ℕ, _≤_}
+use native.Mathlib.Omega.{arith}
+use mathlib.Core.Path.{_≡_, refl}
+use mathlib.Core.Bool.{Bool, true, false, not, cond, _&&_, _||_}
+use mathlib.Core.Option.{Option, none, some}
+use mathlib.Core.List.{List, [], _∷_}
+use lib.Dec.{eqb, leb}
+use lib.ListN.{length}
+use Rattle.answers.specs.declared.Refusal.{Refusal}
+use Rattle.definition.specs.Machine.{Ran, accepted, refused}
+use Rattle.definition.specs.Module.{Module, Chunk}
+use Rattle.definition.specs.State.{State, Facts, join}
+use Rattle.definition.specs.Leaves.{Known, leaves, absorb, opened, closed, moved}
+use Rattle.definition.specs.Start.{agree, admission, admitted, overfull, start, afterChunk}
+use Rattle.definition.specs.Call.{runOf, turned, onRan, admittedRun, onReply, known, onAdmitted, decided}
+use Rattle.refusal_laws.proofs.Only.{either, OfFault, OfRes, OfPlace, OfRan, OfDecided, there}
+use Rattle.refusal_laws.proofs.Visits.{leaves-of, join-of, after-of}
+use Rattle.refusal_laws.proofs.Runs.{check-only}
+
+abbrev pub Late : ℕ → Type 0
+Late n = (7 ≤ n) × (n ≤ 18)
+
+-- ---- the rules
+leaves-late : (k : Known) (b : Bool) (c : Chunk) (f : Facts) (i : ℕ) (s : State) → OfRes Late (leaves k b c f i s)
+leaves-late = leaves-of Late (omega arith, omega arith) (omega arith, omega arith) (omega arith, omega arith) (omega arith, omega arith) (omega arith, omega arith) (omega arith, omega arith)
+
+join-late : (x y : State) → OfRes Late (join x y)
+join-late = join-of Late (omega arith, omega arith) (omega arith, omega arith) (omega arith, omega arith) (omega arith, omega arith) (omega arith, omega arith) (omega arith, omega arith)
+
+after-late : (c : Chunk) (ss : List (Option State)) → OfPlace Late (afterChunk c ss)
+after-late = after-of Late (omega arith, omega arith) (omega arith, omega arith) (omega arith, omega arith) (omega arith, omega arith) (omega arith, omega arith) (omega arith, omega arith)
+
+-- ---- admission
+admission-late : (m : Module) (c : Chunk) → OfFault Late (admission m c)
+unfolding admission
+admission-late m c =
+    either (OfFault Late) (leb (m .signatures) (c .number) || (eqb (length (c .code)) 0 || not (eqb (length (c .params)) (c .arity)))) (omega arith, omega arith)
+    (either (OfFault Late) (agree (c .tags) (c .params)) tt (omega arith, omega arith))
+
+admitted-late : (m : Module) (cs : List Chunk) → OfPlace Late (admitted m cs)
+unfolding admitted
+admitted-late m [] = tt
+admitted-late m (c ∷ cs) = go (c .reachable) (eqb (admission m c) 0) refl (admitted-late m cs)
+  where
+    go : (a b : Bool) → eqb (admission m c) 0 ≡ b → OfPlace Late (admitted m cs)
+        → OfPlace Late (cond (a && not b) (some (admission m c, c .number)) (admitted m cs))
+    go true true e h = h
+    go true false e h = there Late _ (admission-late m c) e
+    go false b e h = h
+
+-- ---- the whole
+run-late : (k : Known) (cap limit : ℕ) (f : Facts) → OfRan Late (runOf k cap limit f)
+unfolding runOf
+run-late k cap limit f =
+    check-only join cap (k .code .chunks) (λ c. c .reachable) start afterChunk opened (λ x. x .known) (absorb (k .code)) moved closed (leaves k)
+    Late (omega arith, omega arith) join-late after-late (leaves-late k) (omega arith, omega arith) limit f
+
+on-ran : (k : Known) (reply : ℕ) (x : Ran Facts State) → OfRan Late x → OfDecided Late (onRan k reply x)
+unfolding onRan
+on-ran k reply (accepted x steps) h = tt
+on-ran k reply (refused r) h = h
+
+on-reply : (k : Known) (cap limit : ℕ) (f : Facts) (o : Option ℕ) → OfDecided Late (onReply k cap limit f o)
+unfolding onReply admittedRun
+on-reply k cap limit f none = (omega arith, omega arith)
+on-reply k cap limit f (some reply) =
+    either (OfDecided Late) (overfull (k .code)) (omega arith, omega arith) (on-ran k reply (runOf k cap limit f) (run-late k cap limit f))
+
+on-admitted : (m : Module) (cap limit : ℕ) (o : Option (ℕ × ℕ)) → OfPlace Late o → OfDecided Late (onAdmitted m cap limit o)
+unfolding onAdmitted known
+on-admitted m cap limit (some x) h = h
+on-admitted m cap limit none h = on-reply _ cap limit _ _
+
+pub decided-late : (m : Module) (cap limit : ℕ) → OfDecided Late (decided m cap limit)
+unfolding decided
+decided-late m cap limit = on-admitted m cap limit _ (admitted-late m (m .chunks))
+
+-- THEOREM
+pub decided-numbers : (m : Module) (cap limit : ℕ) (r : Refusal) → decided m cap limit ≡ turned r → (7 ≤ r .number) × (r .number ≤ 18)
+decided-numbers m cap limit r e = rw e at (decided-late m cap limit)

@@ -1,0 +1,115 @@
+-- A check is refused by 7, 8, or a number that the rule, the join or what follows a chunk refuses by. Over any state, facts, join and rule.
+use Prim.Native.Nat.{ℕ, zero, suc}
+use mathlib.Core.Bool.{Bool, true, false, not}
+use mathlib.Core.Option.{Option, none, some}
+use mathlib.Core.List.{List, [], _∷_, _++_}
+use lib.ListN.{length, getD}
+use lib.Dec.{ltb}
+use Rattle.definition.specs.Res.{Res, ok, bad}
+use Rattle.definition.specs.Machine.{Joined, Effect, Work, Seen, Machine, Where, due, done, stop, Ran, push, putJoined, putAt, putIn, put, puts, visitAt, visit, enter, finish, endRound, ending, onward, settle, settled, onSeen, takes, next, onNext, run, begun, check}
+use Rattle.refusal_laws.proofs.Only.{either, OfRes, OfPlace, OfWhere, OfRan, bind-of}
+
+module _ (Only : ℕ → Type 0) (only-8 : Only 8) where
+  push-only : {S : Type 0} (st : List (Option S)) (q : List ℕ) (t : ℕ) (b : Bool) → OfRes Only (push st q t b)
+  unfolding push
+  push-only st q t true = tt
+  push-only st q t false = only-8
+
+  module _ {S : Type 0} (join : S → S → Res (Joined S)) (cap : ℕ) (joins : (s x : S) → OfRes Only (join s x)) where
+    joined-only : (w : Work S) (t : ℕ) (j : Joined S) (b : Bool) → OfRes Only (putJoined join cap w t j b)
+    unfolding putJoined
+    joined-only w t j true = push-only _ _ t _
+    joined-only w t j false = tt
+
+    at-only : (w : Work S) (t : ℕ) (x : S) (o : Option S) → OfRes Only (putAt join cap w t x o)
+    unfolding putAt
+    at-only w t x none = push-only _ _ t _
+    at-only w t x (some old) = bind-of Only (join old x) _ (joins old x) (λ j. joined-only w t j (j .changed))
+
+    in-only : (w : Work S) (t : ℕ) (x : S) (b : Bool) → OfRes Only (putIn join cap w t x b)
+    unfolding putIn
+    in-only w t x true = at-only w t x (getD (w .states) t none)
+    in-only w t x false = tt
+
+    puts-only : (w : Work S) (os : List (ℕ × S)) → OfRes Only (puts join cap w os)
+    unfolding puts put
+    puts-only w [] = tt
+    puts-only w (o ∷ os) = bind-of Only (put join cap w o) _ (in-only w (o .0) (o .1) (ltb (o .0) (length (w .states)))) (λ v. puts-only v os)
+
+    visit-only : {F R G : Type 0} (view : F → R) (absorb : F → G → F) (leaves : R → ℕ → S → Res (Effect S G))
+        → ((r : R) (i : ℕ) (s : S) → OfRes Only (leaves r i s)) → (f : F) (st : List (Option S)) (q : List ℕ) (i : ℕ) (o : Option S)
+        → OfRes Only (visitAt join cap view absorb leaves f st q i o)
+    unfolding visitAt
+    visit-only view absorb leaves rule f st q i none = tt
+    visit-only view absorb leaves rule f st q i (some s) =
+        bind-of Only (leaves (view f) i s) _ (rule (view f) i s)
+        (λ e. bind-of Only (puts join cap (record { states = st; queue = q }) (e .ways)) _ (puts-only _ (e .ways)) (λ w. tt))
+
+module _ {C F R S G : Type 0} (join : S → S → Res (Joined S)) (cap : ℕ) (chunks : List C) (reachable : C → Bool)
+    (start : C → R → List (Option S)) (after : C → List (Option S) → Option (ℕ × ℕ))
+    (open′ : R → F) (view : F → R) (absorb : F → G → F) (loud : F → Bool) (close : F → R)
+    (leaves : Bool → C → R → ℕ → S → Res (Effect S G))
+    -- the numbers
+    (Only : ℕ → Type 0) (only-8 : Only 8) (joins : (s x : S) → OfRes Only (join s x))
+    (follows : (c : C) (st : List (Option S)) → OfPlace Only (after c st))
+    (rule : (v : Bool) (c : C) (r : R) (i : ℕ) (s : S) → OfRes Only (leaves v c r i s)) where
+  pub enter-only : (v : Bool) (end : F → List (List (Option S)) → Where C F R S) → ((f : F) (past : List (List (Option S))) → OfWhere Only (end f past))
+      → (n : ℕ) (f : F) (past : List (List (Option S))) (cs : List C)
+      → OfWhere Only (enter join cap chunks reachable start after open′ view absorb loud close leaves v end n f past cs)
+  unfolding enter
+  enter-only v end h n f past [] = h f past
+  enter-only v end h n f past (c ∷ cs) = either (OfWhere Only) (reachable c) tt (enter-only v end h (suc n) f (past ++ ([] ∷ [])) cs)
+
+  ending-only : (v : Bool) (f : F) (past : List (List (Option S)))
+      → OfWhere Only (ending join cap chunks reachable start after open′ view absorb loud close leaves v f past)
+  unfolding ending endRound finish
+  ending-only true f past = tt
+  ending-only false f past = enter-only (not (loud f)) _ (λ g p. tt) 0 _ [] chunks
+
+  onward-only : (m : Machine C F S) (o : Option (ℕ × ℕ)) → OfPlace Only o
+      → OfWhere Only (onward join cap chunks reachable start after open′ view absorb loud close leaves m o)
+  unfolding onward
+  onward-only m (some x) h = h
+  onward-only m none h = enter-only (m .validating) _ (ending-only (m .validating)) _ (m .facts) _ (m .rest)
+
+  settle-only : (m : Machine C F S) (v : Bool) → OfWhere Only (settle join cap chunks reachable start after open′ view absorb loud close leaves m v)
+  unfolding settle
+  settle-only m true = onward-only m _ (follows (m .chunk) (m .states))
+  settle-only m false = onward-only m none tt
+
+  settled-only : (m : Machine C F S) (q : List ℕ) → OfWhere Only (settled join cap chunks reachable start after open′ view absorb loud close leaves m q)
+  unfolding settled
+  settled-only m [] = settle-only m (m .validating)
+  settled-only m (i ∷ q) = tt
+
+  seen-only : (m : Machine C F S) (i : ℕ) (r : Res (Seen F S)) → OfRes Only r
+      → OfWhere Only (onSeen join cap chunks reachable start after open′ view absorb loud close leaves m i r)
+  unfolding onSeen
+  seen-only m i (bad n) h = h
+  seen-only m i (ok r) h = settled-only _ (r .work .queue)
+
+  pub takes-only : (m : Machine C F S) (q : List ℕ) → OfWhere Only (takes join cap chunks reachable start after open′ view absorb loud close leaves m q)
+  unfolding takes visit
+  takes-only m [] = settle-only m (m .validating)
+  takes-only m (i ∷ q) =
+      seen-only m i _
+      (visit-only Only only-8 join cap joins view _ _ (rule (m .validating) (m .chunk)) (m .facts) (m .states) q i (getD (m .states) i none))
+
+  -- the limit too
+  module _ (only-7 : Only 7) where
+    next-only : (more : Machine C F S → Ran R S) → ((m : Machine C F S) → OfRan Only (more m)) → (steps : ℕ) (w : Where C F R S) → OfWhere Only w
+        → OfRan Only (onNext join cap chunks reachable start after open′ view absorb loud close leaves more steps w)
+    unfolding onNext
+    next-only more h steps (due m) o = h m
+    next-only more h steps (done x) o = tt
+    next-only more h steps (stop x) o = o
+
+    run-only : (left steps : ℕ) (m : Machine C F S) → OfRan Only (run join cap chunks reachable start after open′ view absorb loud close leaves left steps m)
+    unfolding run next
+    run-only zero steps m = only-7
+    run-only (suc left) steps m = next-only _ (λ n. run-only left (suc steps) n) (suc steps) _ (takes-only m (m .queue))
+
+    -- THEOREM
+    pub check-only : (limit : ℕ) (r : R) → OfRan Only (check join cap chunks reachable start after open′ view absorb loud close leaves limit r)
+    unfolding check begun finish
+    check-only limit r = next-only _ (λ m. run-only limit 0 m) 0 _ (enter-only false _ (λ f past. tt) 0 (open′ r) [] chunks)

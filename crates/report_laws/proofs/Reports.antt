@@ -1,0 +1,163 @@
+-- An accepted report is one that can be read back from its bytes.
+use Prim.Native.Nat.{ℕ, suc, _-_}
+use native.Mathlib.Omega.{arith}
+use mathlib.Core.Path.{_≡_, refl, sym, _∙_}
+use mathlib.Core.Bool.{Bool, true, false, cond}
+use mathlib.Core.Option.{Option, none, some}
+use mathlib.Core.List.{List, [], _∷_, map}
+use lib.Dec.{leb}
+use lib.ListN.{take}
+use Rattle.answers.specs.declared.Refusal.{Refusal}
+use Rattle.masks.specs.declared.Mask.{Mask}
+use Rattle.widths.specs.declared.Shape.{Shape}
+use Rattle.flows.specs.declared.Flow.{Flow}
+use Rattle.cells.specs.declared.Cell.{Cell}
+use Rattle.cells.specs.Cell.{declared}
+use Rattle.machine_laws.proofs.All.{All, nil, cons, all-append, all-get, all-replicate, Opt}
+use Rattle.definition.specs.declared.Form.{Form}
+use Rattle.definition.specs.declared.Form.the-variants.{Fine}
+use Rattle.definition.specs.declared.Form.the-variants.{Refused as Malformed}
+use Rattle.definition.specs.Machine.{Final, Ran, accepted, refused}
+use Rattle.definition.specs.Module.{Module, Chunk, Line, Site, moduleOf}
+use Rattle.definition.specs.State.{State, Facts}
+use Rattle.definition.specs.Outputs.{outputs}
+use Rattle.definition.specs.Leaves.{Known, visitOf, lineAt, noLine}
+use Rattle.definition.specs.Form.{formOf}
+use Rattle.definition.specs.Start.{declaredParams, firstFacts, overfull, siteReply, replyIn, replies, firstReply, replyCell, knownOf}
+use Rattle.definition.specs.Report.{Report, signaturesFrom, slotCells, placed, recordFrom, recordOf, fromState, fromStates, fromChunks, reportOf, reportBytes}
+use Rattle.definition.specs.Call.{Decided, reported, turned, runOf, onRan, admittedRun, onReply, known, onAdmitted, decided, onForm, decide}
+use Rattle.report_laws.specs.Read.{readReport}
+use Rattle.report_laws.proofs.Cells.{ProperFlow, Proper}
+use Rattle.report_laws.proofs.Back.{ProperSignature, ProperRecord, ProperReport, read-back}
+use Rattle.report_laws.proofs.Kept.{cell-join, flow-new, flow-none, cell-none, cell-unit}
+use Rattle.report_laws.proofs.Runs.{ProperState, ProperFacts, visit-proper, outputs-proper, run-proper}
+
+-- ---- from proper facts and states a proper report
+signatures-proper : (n : ℕ) {iss : List (List Cell)} {rs : List Cell} → All (All Proper) iss → All Proper rs → All ProperSignature (signaturesFrom n iss rs)
+unfolding signaturesFrom
+signatures-proper n nil q = nil
+signatures-proper n (cons p ps) q = cons (record { inputs = p; result = all-get Proper n cell-none q }) (signatures-proper (suc n) ps q)
+
+slots-proper : (ms : List Mask) {ws : List Flow} → All ProperFlow ws → All Proper (slotCells ms ws)
+unfolding slotCells
+slots-proper [] a = nil
+slots-proper (m ∷ ms) nil = cons flow-none (slots-proper ms nil)
+slots-proper (m ∷ ms) (cons p a) = cons p (slots-proper ms a)
+
+placed-proper : (n : ℕ) {cs : List Cell} → All Proper cs → All (λ o. Proper (o .cell)) (placed n cs)
+unfolding placed
+placed-proper n nil = nil
+placed-proper n (cons p a) = cons p (placed-proper (suc n) a)
+
+record-proper : (k : Known) (c : Chunk) (f : Facts) (i : ℕ) (s : State) → Proper (k .reply) → ProperFacts f → ProperState s → ProperRecord (recordOf k c f i s)
+unfolding recordOf recordFrom
+record-proper k c f i s r p q = record {
+  stack = q .stack;
+  locals = q .locals;
+  outputs = placed-proper _ (outputs-proper (visitOf k c f (lineAt (c .code) i noLine) s) _ (visit-proper k c f (lineAt (c .code) i noLine) s r p q));
+}
+
+module _ {A : Type 0} (Q : A → Type 0) where
+  states-give : (g : ℕ → State → List A) → ((i : ℕ) (s : State) → ProperState s → All Q (g i s)) → (i : ℕ) {ss : List (Option State)} → All (Opt ProperState) ss
+      → All Q (fromStates g i ss)
+  unfolding fromStates fromState
+  states-give g h i nil = nil
+  states-give g h i (cons {x = none} p a) = states-give g h (suc i) a
+  states-give g h i (cons {x = some s} p a) = all-append Q (h i s p) (states-give g h (suc i) a)
+
+  chunks-give : (g : Chunk → ℕ → State → List A) → ((c : Chunk) (i : ℕ) (s : State) → ProperState s → All Q (g c i s)) → (cs : List Chunk) {sss : List (List (Option State))}
+      → All (All (Opt ProperState)) sss → All Q (fromChunks g cs sss)
+  unfolding fromChunks
+  chunks-give g h [] a = nil
+  chunks-give g h (c ∷ cs) nil = nil
+  chunks-give g h (c ∷ cs) (cons p a) = all-append Q (states-give (g c) (h c) 0 p) (chunks-give g h cs a)
+
+report-proper : (k : Known) (n : ℕ) (x : Final Facts State) → Proper (k .reply) → ProperFacts (x .facts) → All (All (Opt ProperState)) (x .states) → ProperReport (reportOf k n x)
+unfolding reportOf
+report-proper k n x r p q = record {
+  signatures = signatures-proper 0 (p .inputs) (p .results);
+  slots = slots-proper (x .facts .masks) (p .flows);
+  records = chunks-give ProperRecord (λ c i s. recordOf k c (x .facts) i s ∷ []) (λ c i s h. cons (record-proper k c (x .facts) i s r p h) nil) (k .code .chunks) q;
+}
+
+-- ---- the facts and the reply at the start
+cell-declared : (s : Shape) (b : Bool) → Proper (declared s b)
+unfolding declared
+cell-declared s b = flow-new _ _ _
+
+map-all : {A B : Type 0} (Q : B → Type 0) (f : A → B) → ((x : A) → Q (f x)) → (xs : List A) → All Q (map f xs)
+map-all Q f h [] = nil
+map-all Q f h (x ∷ xs) = cons (h x) (map-all Q f h xs)
+
+first-proper : (m : Module) → ProperFacts (firstFacts m)
+unfolding firstFacts declaredParams
+first-proper m = record {
+  inputs = map-all (All Proper) (declaredParams m) (λ c. map-all Proper (λ x. declared x (m .owns)) (λ x. cell-declared x (m .owns)) (c .params)) (take (m .signatures) (m .chunks));
+  results = map-all Proper (λ c. declared (c .result) (m .owns)) (λ c. cell-declared (c .result) (m .owns)) (take (m .signatures) (m .chunks));
+  flows = all-replicate ProperFlow (m .slots) flow-none;
+}
+
+site-proper : (m : Module) (c : Cell) (o : Option Site) → Proper c → Proper (siteReply m c o)
+unfolding siteReply
+site-proper m c none p = p
+site-proper m c (some x) p = cell-join c _ p (cell-declared _ _)
+
+in-proper : (m : Module) (c : Cell) (xs : List Line) → Proper c → Proper (replyIn m c xs)
+unfolding replyIn
+in-proper m c [] p = p
+in-proper m c (x ∷ xs) p = in-proper m _ xs (site-proper m c (x .site) p)
+
+replies-proper : (m : Module) (c : Cell) (cs : List Chunk) → Proper c → Proper (replies m c cs)
+unfolding replies
+replies-proper m c [] p = p
+replies-proper m c (x ∷ xs) p = replies-proper m _ xs (in-proper m c (x .code) p)
+
+head-proper : {cs : List Cell} → All Proper cs → Proper (firstReply cs)
+unfolding firstReply
+head-proper nil = cell-unit
+head-proper (cons p a) = p
+
+reply-proper : (m : Module) (f : Facts) → ProperFacts f → Proper (knownOf m f .reply)
+unfolding knownOf replyCell
+reply-proper m f p = replies-proper m _ (m .chunks) (head-proper (all-get (All Proper) (m .entry) nil (p .inputs)))
+
+-- ---- the call
+turned≢reported : {r : Refusal} {x : Report} {n : ℕ} → turned r ≡ reported x n → ⊥
+turned≢reported e = let z : _≡_ {A = ℕ} 0 1 = cc in omega arith
+
+ran-proper : (k : Known) (m n : ℕ) (o : Ran Facts State) (r : Report) → Proper (k .reply)
+    → ((x : Final Facts State) (j : ℕ) → o ≡ accepted x j → ProperFacts (x .facts) × All (All (Opt ProperState)) (x .states)) → onRan k m o ≡ reported r n → ProperReport r
+unfolding onRan
+ran-proper k m n (accepted x j) r p h e =
+    let q : reportOf k m x ≡ r = cc in
+    rw (← q) (report-proper k m x p (h x j refl .0) (h x j refl .1))
+ran-proper k m n (refused x) r p h e = absurd (turned≢reported e)
+
+if-reported : (b : Bool) (x y : Decided) {r : Report} {n : ℕ} (z : Refusal) → x ≡ turned z → cond b x y ≡ reported r n → y ≡ reported r n
+if-reported true x y z e h = absurd (turned≢reported (sym e ∙ h))
+if-reported false x y z e h = h
+
+-- after 11 and 12
+reply-by : (k : Known) (cap limit n : ℕ) (f : Facts) (o : Option ℕ) (r : Report) → Proper (k .reply) → ProperFacts f → onReply k cap limit f o ≡ reported r n → ProperReport r
+unfolding onReply admittedRun
+reply-by k cap limit n f none r p q e = absurd (turned≢reported e)
+reply-by k cap limit n f (some m) r p q e =
+    ran-proper k m n (runOf k cap limit f) r p (λ x j h. run-proper k cap limit j f x p q h) (if-reported (overfull (k .code)) _ _ _ refl e)
+
+-- after 9 and 10
+admitted-proper : (m : Module) (cap limit n : ℕ) (o : Option (ℕ × ℕ)) (r : Report) → onAdmitted m cap limit o ≡ reported r n → ProperReport r
+unfolding onAdmitted known
+admitted-proper m cap limit n (some x) r e = absurd (turned≢reported e)
+admitted-proper m cap limit n none r e =
+    reply-by (knownOf m (firstFacts m)) cap limit n (firstFacts m) _ r (reply-proper m (firstFacts m) (first-proper m)) (first-proper m) e
+
+-- after 1 to 5
+form-proper : (s : List ℕ) (words limit n : ℕ) (f : Form) (r : Report) → onForm s words limit f ≡ reported r n → ProperReport r
+unfolding onForm decided
+form-proper s words limit n (Malformed x) r e = absurd (turned≢reported e)
+form-proper s words limit n (Fine w) r e = admitted-proper (moduleOf s) (words - w) limit n _ r (if-reported (leb words w) _ _ _ refl e)
+
+-- every report that the definition decides on is read back from its bytes
+pub decided-back : (s : List ℕ) (words limit n : ℕ) (r : Report) → decide s words limit ≡ reported r n → readReport (reportBytes r) ≡ r
+unfolding decide
+decided-back s words limit n r e = read-back r (form-proper s words limit n (formOf s) r e)

@@ -1,0 +1,140 @@
+-- Every cell that a visit makes has four extents, as those in the workspace have; so a cell is 49 bytes.
+use Prim.Native.Nat.{ℕ, zero, suc, _+_}
+use mathlib.Core.Path.{_≡_, sym, _∙_}
+use mathlib.Core.Bool.{Bool, true, false, cond}
+use mathlib.Core.Option.{Option, none, some}
+use mathlib.Core.List.{List, [], _∷_}
+use lib.Dec.{eqb}
+use lib.ListN.{length}
+use Rattle.flows.specs.declared.Flow.{Flow}
+use Rattle.flows.specs.Flow.{joinFlow, noFlow}
+use Rattle.cells.specs.declared.Cell.{Cell}
+use Rattle.ops.specs.declared.Makes.{Makes}
+use Rattle.ops.specs.declared.Makes.the-variants.{Anything, Constant, Immediate, Local, Operand, OperandMask, Reply, Result, Common, Kind, Negation, OneKind, Slots, Composite, Part, NativeValue}
+use Rattle.ops.specs.declared.Others.{Others}
+use Rattle.ops.specs.declared.Others.the-variants.{Unknowns, Words, Checked, Copies, Tested, Status}
+use Rattle.words.specs.Layout.{cellAt}
+use Rattle.words.proofs.Laws.{cellAt-fit}
+use Rattle.words.specs.Rows.{cellsAt}
+use Rattle.definition.specs.Module.{Module, Site, Native, row, moduleOf}
+use Rattle.definition.specs.State.{Facts}
+use Rattle.definition.specs.Data.{isBody, flowIn, privateCell, readSlots}
+use Rattle.definition.specs.Outputs.{Visit, instr, at, withPredicate, withOrigin, constantCell, fieldCell, nativeCell, replyShape, replyCell, compositeCell, firstOutput, secondOutput, restOutput, tested, madeFrom, outputs, output}
+use Rattle.definition.specs.Leaves.{visitOf}
+use Rattle.definition.specs.Report.{cellBytes}
+use Rattle.machine_laws.proofs.All.{All, nil, cons, all-get}
+use Rattle.report_laws.proofs.Cells.{cell-long}
+use Rattle.report_laws.proofs.Kept.{flow-none, cell-made, cell-fresh, cell-none, cell-construction, joined-long}
+use Rattle.visit.specs.declared.Visit.{Visit as Look}
+use Rattle.visit.specs.Held.{Looking, argsIn, factsIn, stateOf, visitIn}
+use Rattle.visit.proofs.Visits.{args-are}
+
+abbrev FourIn : Flow → Type 0
+FourIn f = length (f .bodies) ≡ 4
+
+abbrev pub Four : Cell → Type 0
+Four c = FourIn (c .flow)
+
+pub four-long : (c : Cell) → Four c → length (cellBytes c) ≡ 49
+four-long c h = cell-long c h
+
+-- ---- the workspace's
+pub four-at : (ws : List ℕ) (p : ℕ) → Four (cellAt ws p)
+four-at ws p = cellAt-fit ws p .four
+
+all-cells : (ws : List ℕ) (p n : ℕ) → All Four (cellsAt ws p n)
+unfolding cellsAt
+all-cells ws p zero = nil
+all-cells ws p (suc n) = cons (four-at ws p) (all-cells ws (p + 16) n)
+
+all-row : {A : Type 0} (P : A → Type 0) (f : ℕ → A) (i n : ℕ) → ((k : ℕ) → P (f k)) → All P (row f i n)
+unfolding row
+all-row P f i zero h = nil
+all-row P f i (suc n) h = cons (h i) (all-row P f (suc i) n h)
+
+-- ---- a visit whose cells have four
+record FourVisit (v : Visit) : Type 0 where
+  args : All Four (v .args)
+  locals : All Four (v .locals)
+  results : All Four (v .facts .results)
+  flows : All FourIn (v .facts .flows)
+
+pick : (b : Bool) (x y : Cell) → Four x → Four y → Four (cond b x y)
+pick true x y p q = p
+pick false x y p q = q
+
+four-flows : (f : Facts) (so : Flow) (ns : List ℕ) → All FourIn (f .flows) → FourIn so → FourIn (flowIn f so ns)
+unfolding flowIn joinFlow
+four-flows f so [] a h = h
+four-flows f so (n ∷ ns) a h =
+    let w = all-get FourIn n (flow-none .four) a in
+    four-flows f _ ns a (joined-long (so .bodies) _ (h ∙ sym w) ∙ h)
+
+four-read : (m : Module) (f : Facts) (n : ℕ) (ns : List ℕ) → All FourIn (f .flows) → Four (readSlots m f n ns)
+unfolding readSlots privateCell
+four-read m f n ns a = pick (isBody m n) _ _ (four-flows f noFlow ns a (flow-none .four)) (cell-fresh _ _ _ .four)
+
+four-site : (o : Option Site) → Four (replyCell o)
+unfolding replyCell replyShape
+four-site none = cell-none .four
+four-site (some x) = cell-fresh _ _ _ .four
+
+four-native : (o : Option Native) (n : ℕ) → Four (nativeCell o n)
+unfolding nativeCell
+four-native none n = cell-made _ _ .four
+four-native (some x) n = cell-fresh _ _ _ .four
+
+four-first : (v : Visit) (k : Makes) → FourVisit v → Four (firstOutput v k)
+unfolding firstOutput constantCell fieldCell compositeCell withOrigin withPredicate
+four-first v Anything p = cell-made _ _ .four
+four-first v Constant p = pick (eqb (instr v .c) 0) _ _ (cell-made _ _ .four) (cell-fresh _ _ _ .four)
+four-first v Immediate p = cell-made _ _ .four
+four-first v Local p = all-get Four (instr v .a) (cell-none .four) (p .locals)
+four-first v Operand p = all-get Four 0 (cell-none .four) (p .args)
+four-first v OperandMask p = cell-made _ _ .four
+four-first v Reply p = four-site (v .line .site)
+four-first v Result p = all-get Four (instr v .a) (cell-none .four) (p .results)
+four-first v (Common m) p = cell-made _ _ .four
+four-first v (Kind m) p = cell-made _ _ .four
+four-first v Negation p = cell-made _ _ .four
+four-first v OneKind p = cell-made _ _ .four
+four-first v Slots p = four-read _ _ _ _ (p .flows)
+four-first v Composite p = pick (eqb (instr v .a) 0) _ _ (cell-construction _ _ .four) (cell-made _ _ .four)
+four-first v Part p = pick (eqb (instr v .a) 0) _ _ (cell-made _ _ .four) (pick (eqb (instr v .a) 1) _ _ (cell-fresh _ _ _ .four) (cell-made _ _ .four))
+four-first v NativeValue p = four-native (at (v .code .natives) (instr v .a)) _
+
+four-second : (v : Visit) (k : Others) (c : Cell) → Four c → Four (secondOutput v k c)
+unfolding secondOutput tested withPredicate
+four-second v Unknowns c h = cell-made _ _ .four
+four-second v Words c h = cell-made _ _ .four
+four-second v Checked c h = cell-made _ _ .four
+four-second v Copies c h = h
+four-second v (Tested k) c h = cell-made _ _ .four
+four-second v Status c h = cell-made _ _ .four
+
+four-rest : (v : Visit) (k : Others) (c : Cell) → Four c → Four (restOutput v k c)
+unfolding restOutput
+four-rest v Unknowns c h = cell-made _ _ .four
+four-rest v Words c h = cell-made _ _ .four
+four-rest v Checked c h = cell-made _ _ .four
+four-rest v Copies c h = h
+four-rest v (Tested k) c h = cell-made _ _ .four
+four-rest v Status c h = cell-made _ _ .four
+
+four-output : (v : Visit) → FourVisit v → (k : ℕ) → Four (output (outputs v) k)
+unfolding outputs madeFrom output
+four-output v p zero = four-first v (v .rule .makes) p
+four-output v p (suc zero) = four-second v (v .rule .others) _ (four-first v (v .rule .makes) p)
+four-output v p (suc (suc k)) = four-rest v (v .rule .others) _ (four-first v (v .rule .makes) p)
+
+-- the outputs of a visit that the code looks at
+pub looked-four : (s ws : List ℕ) (v : Look) → Looking s ws v → (k : ℕ) → Four (output (outputs (visitIn s ws v)) k)
+unfolding visitIn visitOf stateOf argsIn factsIn
+looked-four s ws v x k =
+    four-output (visitIn s ws v)
+    (record {
+      args = rw (args-are s ws v x) (all-cells ws _ _);
+      locals = all-cells ws _ _;
+      results = all-row Four _ 0 (moduleOf s .signatures) (λ n. four-at ws _);
+      flows = all-row FourIn _ 0 (moduleOf s .slots) (λ n. four-at ws _);
+    }) k

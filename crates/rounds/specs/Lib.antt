@@ -1,0 +1,4 @@
+pub mod Settling
+pub mod Ends
+pub mod entering
+pub mod inspecting

@@ -1,0 +1,45 @@
+-- Where a run stands, as the machine has it; a pass over all chunks begins.
+use Prim.Native.Nat.{ℕ, _<_}
+use mathlib.Core.Path.{_≡_}
+use mathlib.Core.Bool.{Bool, false}
+use mathlib.Core.List.{List, []}
+use lib.ListN.{length}
+use Rattle.definition.specs.Machine.{Where, due, done, stop, Machine, enter, finish, settle}
+use Rattle.definition.specs.Module.{Chunk}
+use Rattle.definition.specs.State.{State, Facts, Live, join}
+use Rattle.definition.specs.Leaves.{Known, leaves, absorb, opened, closed, moved}
+use Rattle.definition.specs.Start.{start, afterChunk}
+use Rattle.visit.specs.Held.{liveIn}
+use Rattle.run_state.specs.Course.{machineIn, finalIn, roomIn, knownAs, Between, Ended}
+use Rattle.rounds.specs.declared.entering.Settled.{Settled}
+use Rattle.rounds.specs.declared.entering.Settled.the-variants.{Due, Done, Stop}
+
+-- the machine's functions, with the rules of the definition
+module _ (k : Known) (cap : ℕ) where
+  abbrev pub settleOf : Machine Chunk Live State → Bool → Where Chunk Live Facts State
+  settleOf = settle join cap (k .code .chunks) (λ c. c .reachable) start afterChunk opened (λ x. x .known) (absorb (k .code)) moved closed (leaves k)
+
+  -- a pass over all chunks begins with these facts
+  abbrev pub openOf : Bool → Live → Where Chunk Live Facts State
+  openOf v f =
+      enter join cap (k .code .chunks) (λ c. c .reachable) start afterChunk opened (λ x. x .known) (absorb (k .code)) moved closed (leaves k) v
+      (finish join cap (k .code .chunks) (λ c. c .reachable) start afterChunk opened (λ x. x .known) (absorb (k .code)) moved closed (leaves k))
+      0 f [] (k .code .chunks)
+
+-- where the words and the answer stand
+unfoldable pub whereIn : List ℕ → List ℕ → Settled → Where Chunk Live Facts State
+whereIn s ws (Due r) = due (machineIn s ws r)
+whereIn s ws Done = done (finalIn s ws)
+whereIn s ws (Stop f) = stop (record { number = f .number; chunk = f .chunk; instruction = f .instruction })
+
+-- an entry is due, after these steps; the end has what the report needs; a refusal has the steps
+unfoldable pub Goes : List ℕ → List ℕ → ℕ → Settled → Type 0
+Goes s ws steps (Due r) = Between s ws r × (0 < r .queue .count) × (r .steps ≡ steps)
+Goes s ws steps Done = Ended s ws
+Goes s ws steps (Stop f) = f .steps ≡ steps
+
+unfoldable pub Opened : List ℕ → List ℕ → List ℕ → Bool → ℕ → Settled → Type 0
+Opened s ws v validating steps x =
+    (whereIn s v x ≡ openOf (knownAs s) (roomIn s ws) validating (liveIn s ws false))
+    × Goes s v steps x
+    × (length v ≡ length ws)

@@ -1,0 +1,166 @@
+// Cells that arrive at the places of a row.
+use cells::Cell;
+use cells::JoinedCell;
+use definition::Made;
+use flows::Origin;
+use layout::NONE;
+use words::copy16;
+use words::is_plain;
+use words::load;
+use words::same16;
+use words::store;
+ghost use mathlib.Core.Path.{_≡_};
+ghost use mathlib.Core.List.{[], _∷_, map};
+ghost use Prim.Native.Nat.{_+_, _*_, _≤_};
+ghost use lib.ListN.{length};
+ghost use Rattle.definition.specs.Outputs.{output as outputOf};
+ghost use Rattle.definition.specs.Ways.{isFrom, narrowStack, outputList};
+ghost use Rattle.words.specs.Layout.{cellAt};
+ghost use Rattle.words.specs.Rows.{cellsAt};
+ghost use Rattle.row_join.specs.places.Arrive.{metCell, keptCell, untouchedAt, Places, Arrived};
+
+// A cell arrives where another stands, or at a fresh place.
+fn meet(fresh: bool, old: Cell, new: Cell) -> JoinedCell
+    ensures { λ r. ⌜ r ≡ metCell fresh old new ⌝ }
+{
+    if fresh {
+        return JoinedCell {
+            cell: new,
+            changed: true,
+        };
+    }
+    old.join(new)
+}
+
+pub fn join_one(ws: &mut [u32], to: usize, fresh: bool, new: Cell) -> bool
+    requires { ⌜ to + 16 ≤ length (now ws) ⌝ }
+    ensures { λ r. ⌜ Arrived fresh to 1 (new ∷ []) (now (ws .entry)) (now (ws .exit)) r ⌝ }
+{
+    let j = meet(fresh, load(ws, to), new);
+    store(ws, to, j.cell);
+    j.changed
+}
+
+fn is_from(o: Origin, local: u16) -> bool
+    ensures { λ r. ⌜ r ≡ isFrom o local ⌝ }
+{
+    match o {
+        Origin::Nowhere => false,
+        Origin::Local(i) => i == local,
+    }
+}
+
+fn narrowed_with(c: Cell, narrow: u16) -> Cell
+    ensures { λ r. ⌜ r ≡ narrowStack narrow c ⌝ }
+{
+    let f = c.flow;
+    let origin = f.origin;
+    if is_from(origin, narrow) {
+        return c.narrow_enum();
+    }
+    c
+}
+
+// A kept cell without what names the local forget, narrowed if it came from the local narrow.
+fn kept(c: Cell, forget: u16, narrow: u16) -> Cell
+    ensures { λ r. ⌜ r ≡ keptCell forget narrow c ⌝ }
+{
+    if forget != NONE {
+        return c.invalidate(forget);
+    }
+    if narrow != NONE {
+        return narrowed_with(c, narrow);
+    }
+    c
+}
+
+// Words that leave as they are: nothing is forgotten or narrowed, or nothing in them names a local.
+fn untouched(ws: &[u32], from: usize, forget: u16, narrow: u16) -> bool
+    requires { ⌜ from + 16 ≤ length (now ws) ⌝ }
+    ensures { λ r. ⌜ r ≡ untouchedAt (now (ws .entry)) from forget narrow ⌝ }
+{
+    ((forget == NONE) & (narrow == NONE)) | is_plain(ws, from)
+}
+
+// The cell that is kept is joined.
+fn join_kept(ws: &mut [u32], from: usize, to: usize, fresh: bool, forget: u16, narrow: u16) -> bool
+    requires { ⌜ Places (now ws) from to 1 ⌝ }
+    ensures { λ r. ⌜ Arrived fresh to 1 (keptCell forget narrow (cellAt (now (ws .entry)) from) ∷ []) (now (ws .entry)) (now (ws .exit)) r ⌝ }
+{
+    let c = kept(load(ws, from), forget, narrow);
+    join_one(ws, to, fresh, c)
+}
+
+fn keep_same(ws: &mut [u32], from: usize, to: usize, fresh: bool) -> bool
+    requires { ⌜ Places (now ws) from to 1 ⌝ }
+    ensures { λ r. ⌜ Arrived fresh to 1 (cellAt (now (ws .entry)) from ∷ []) (now (ws .entry)) (now (ws .exit)) r ⌝ }
+{
+    if fresh {
+        copy16(ws, from, to);
+        return true;
+    }
+    if same16(ws, from, to) {
+        return false;
+    }
+    join_kept(ws, from, to, false, NONE, NONE)
+}
+
+// One kept place. Where nothing in it is touched, its words are compared or copied.
+fn keep_one(ws: &mut [u32], from: usize, to: usize, fresh: bool, forget: u16, narrow: u16) -> bool
+    requires { ⌜ Places (now ws) from to 1 ⌝ }
+    ensures { λ r. ⌜ Arrived fresh to 1 (keptCell forget narrow (cellAt (now (ws .entry)) from) ∷ []) (now (ws .entry)) (now (ws .exit)) r ⌝ }
+{
+    if untouched(ws, from, forget, narrow) {
+        return keep_same(ws, from, to, fresh);
+    }
+    join_kept(ws, from, to, fresh, forget, narrow)
+}
+
+// The places from on and to on, n of them.
+pub fn keep_all(
+    ws: &mut [u32],
+    from: usize,
+    to: usize,
+    n: usize,
+    fresh: bool,
+    forget: u16,
+    narrow: u16,
+) -> bool
+    requires { ⌜ Places (now ws) from to n ⌝ }
+    ensures { λ r. ⌜ Arrived fresh to n (map (keptCell forget narrow) (cellsAt (now (ws .entry)) from n)) (now (ws .entry)) (now (ws .exit)) r ⌝ }
+{
+    let mut p = 0;
+    let mut changed = false;
+    while p < n {
+        changed = changed | keep_one(ws, from + 16 * p, to + 16 * p, fresh, forget, narrow);
+        p += 1;
+    }
+    changed
+}
+
+// The output k.
+fn output(m: Made, k: usize) -> Cell
+    ensures { λ r. ⌜ r ≡ outputOf m k ⌝ }
+{
+    if k == 0 {
+        return m.first;
+    }
+    if k == 1 {
+        return m.second;
+    }
+    m.rest
+}
+
+// The outputs, from the place to on.
+pub fn put_outputs(ws: &mut [u32], to: usize, n: usize, fresh: bool, made: Made) -> bool
+    requires { ⌜ to + 16 * n ≤ length (now ws) ⌝ }
+    ensures { λ r. ⌜ Arrived fresh to n (outputList made n) (now (ws .entry)) (now (ws .exit)) r ⌝ }
+{
+    let mut k = 0;
+    let mut changed = false;
+    while k < n {
+        changed = changed | join_one(ws, to + 16 * k, fresh, output(made, k));
+        k += 1;
+    }
+    changed
+}

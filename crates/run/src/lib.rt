@@ -1,0 +1,105 @@
+// Rounds until nothing changes, then validation, as one row of takings.
+use answers::Refusal;
+use layout::Tables;
+use ring::peek;
+use rounds::Settled;
+use rounds::open_round;
+use rounds::settle;
+use run_state::Run;
+use run_state::refuse;
+use step::Step;
+use step::take;
+ghost use mathlib.Core.Path.{_≡_};
+ghost use mathlib.Core.Bool.{false};
+ghost use Prim.Native.Nat.{_+_, _<_, _≤_, _^_};
+ghost use Rattle.ring.specs.Ring.{Ready, dueOf};
+ghost use Rattle.definition.specs.Machine.{refusal};
+ghost use Rattle.definition.specs.Module.{moduleOf};
+ghost use Rattle.definition.specs.Leaves.{opened};
+ghost use Rattle.definition.specs.Start.{firstFacts};
+ghost use Rattle.layout.specs.Indexed.{tablesOf};
+ghost use Rattle.visit.specs.Held.{liveIn};
+ghost use Rattle.run_state.specs.Course.{Prepared, Between};
+ghost use Rattle.run.specs.Running.{SettledAs, Turned, RanOn, RanAs};
+
+// The steps of a run that was accepted, or the refusal.
+pub enum Ran {
+    Done(u32),
+    Stop(Refusal),
+}
+
+// The run goes on where an entry is due, else it settles.
+fn settled(s: &[u8], ws: &mut [u32], t: Tables, r: Run) -> Settled
+    requires { ⌜ Between (now s) (now ws) r ⌝ }
+    requires { ⌜ t ≡ tablesOf (now s) ⌝ }
+    ensures { λ x. ⌜ SettledAs (now (s .entry)) (now (ws .entry)) (now (ws .exit)) r x ⌝ }
+{
+    let queue = r.queue;
+    if 0 < queue.count {
+        return Settled::Due(r);
+    }
+    settle(s, ws, t, r)
+}
+
+// One taking, and on to where an entry is due again.
+fn turn(s: &[u8], ws: &mut [u32], t: Tables, r: Run) -> Settled
+    requires { ⌜ Between (now s) (now ws) r ⌝ }
+    requires { ⌜ 0 < r .queue .count ⌝ }
+    requires { ⌜ t ≡ tablesOf (now s) ⌝ }
+    requires { ⌜ r .steps + 1 < 2 ^ 32 ⌝ }
+    ensures { λ x. ⌜ Turned (now (s .entry)) (now (ws .entry)) (now (ws .exit)) r x ⌝ }
+{
+    match take(s, ws, t, r) {
+        Step::Stop(refusal) => Settled::Stop(refusal),
+        Step::Go(next) => settled(s, ws, t, next),
+    }
+}
+
+// 7: an entry is due and the limit is used up.
+fn spent(ws: &[u32], t: Tables, r: Run) -> Refusal
+    requires { ⌜ Ready (now ws) (t .«queue_at») (r .queue) ⌝ }
+    requires { ⌜ (r .chunk < 65536) × (dueOf (now ws) (t .«queue_at») (r .queue) < 65536) ⌝ }
+    ensures { λ f. ⌜ f ≡ refusal 7 (r .chunk) (dueOf (now (ws .entry)) (t .«queue_at») (r .queue)) (r .steps) ⌝ }
+{
+    let at = peek(ws, t.queue_at, r.queue) as usize;
+    refuse(7, r.chunk, at, r.steps)
+}
+
+// From an entry due to the end.
+fn run_on(s: &[u8], ws: &mut [u32], t: Tables, first: Run, limit: u32) -> Ran
+    requires { ⌜ Between (now s) (now ws) first ⌝ }
+    requires { ⌜ 0 < first .queue .count ⌝ }
+    requires { ⌜ t ≡ tablesOf (now s) ⌝ }
+    requires { ⌜ first .steps ≤ limit ⌝ }
+    ensures { λ x. ⌜ RanOn (now (s .entry)) (now (ws .entry)) (now (ws .exit)) first limit x ⌝ }
+{
+    let mut r = first;
+    while r.steps < limit {
+        match turn(s, ws, t, r) {
+            Settled::Stop(refusal) => {
+                return Ran::Stop(refusal);
+            }
+            Settled::Done => {
+                return Ran::Done(r.steps + 1);
+            }
+            Settled::Due(next) => {
+                r = next;
+            }
+        }
+    }
+    Ran::Stop(spent(ws, t, r))
+}
+
+// The whole run, from the facts at the start.
+pub fn run(s: &[u8], ws: &mut [u32], t: Tables, limit: u32) -> Ran
+    requires { ⌜ Prepared (now s) (now ws) ⌝ }
+    requires { ⌜ liveIn (now s) (now ws) false ≡ opened (firstFacts (moduleOf (now s))) ⌝ }
+    requires { ⌜ t ≡ tablesOf (now s) ⌝ }
+    ensures { λ x. ⌜ RanAs (now (s .entry)) (now (ws .entry)) (now (ws .exit)) limit x ⌝ }
+{
+    match open_round(s, ws, t, false, 0) {
+        Settled::Stop(refusal) => Ran::Stop(refusal),
+        Settled::Done => Ran::Done(0),
+        Settled::Due(r) => run_on(s, ws, t, r, limit),
+    }
+}

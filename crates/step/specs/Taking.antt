@@ -1,0 +1,37 @@
+-- One taking of an entry, as the machine has it.
+use Prim.Native.Nat.{ℕ, zero, suc}
+use mathlib.Core.Bool.{Bool, cond}
+use mathlib.Core.List.{List}
+use Rattle.ring.specs.declared.Queue.{Queue}
+use Rattle.ring.specs.Ring.{queueOf}
+use Rattle.definition.specs.Res.{Res}
+use Rattle.definition.specs.Machine.{Seen, visit, adds}
+use Rattle.definition.specs.Module.{moduleOf}
+use Rattle.definition.specs.State.{State, Live, Gift, join}
+use Rattle.definition.specs.Outputs.{Visit}
+use Rattle.definition.specs.Wants.{unfit}
+use Rattle.definition.specs.Leaves.{Known, always, heightFault, leaves, absorb, opened, closed, moved}
+use Rattle.definition.specs.Start.{start, afterChunk}
+use Rattle.form_laws.specs.Good.{chunkNo, wordsOf}
+use Rattle.visit.specs.Held.{liveIn}
+use Rattle.run_state.specs.declared.Run.{Run}
+use Rattle.run_state.specs.Course.{statesIn, roomIn, knownAs}
+
+-- only the rounds add to the facts
+abbrev pub addsOf : Known → ℕ → Bool → Live → Gift → Live
+addsOf k cap = adds join cap (k .code .chunks) (λ c. c .reachable) start afterChunk opened (λ x. x .known) (absorb (k .code)) moved closed (leaves k)
+
+-- the machine's visit of the instruction i, the queue q without its entry
+unfoldable pub takingOf : List ℕ → List ℕ → Run → Queue → ℕ → Res (Seen Live State)
+takingOf s ws r q i =
+    visit join (roomIn s ws) (λ (x : Live). x .known) (addsOf (knownAs s) (roomIn s ws) (r .validating))
+    (leaves (knownAs s) (r .validating) (chunkNo (moduleOf s) (r .chunk)))
+    (liveIn s ws (r .changed)) (statesIn s ws (r .chunk)) (queueOf ws (wordsOf (moduleOf s)) q) i
+
+-- ---- what refuses a visit: the first that is not 0
+abbrev pub first : ℕ → ℕ → ℕ
+first zero n = n
+first (suc m) n = suc m
+
+unfoldable pub faultOf : Bool → Visit → ℕ → ℕ
+faultOf validating x height = first (always x height) (first (cond validating (unfit x) 0) (heightFault x))

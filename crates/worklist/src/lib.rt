@@ -1,1 +1,0 @@
-// Theorems about the worklist machine: see specs/.
