@@ -26,7 +26,7 @@ extern "C" {
  *    2  over a largest value; a description has at most 1,048,576 bytes
  *    3  entry or callee without signature, local not below L, more parameters
  *       than L, an indexed access of 0 slots without layout, a call taking
- *       more than its callee's parameters, a Yield without site
+ *       more than its callee's parameters, or a Yield without site
  *    4  taken or given unfit for the instruction
  * The host, who lends the memory and sets the limit:
  *    5  workspace too small: facts_words says how many words are the least

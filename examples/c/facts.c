@@ -22,12 +22,12 @@ static void *lend(size_t count, size_t size) {
 
 /* The file's bytes, and how many there are; one more than LARGEST is enough to see that it is too long. */
 static uint8_t *read_file(const char *path, size_t *length) {
-    uint8_t *bytes = lend(LARGEST + 1, 1);
     FILE *file = fopen(path, "rb");
     if (file == NULL) {
         perror(path);
         exit(2);
     }
+    uint8_t *bytes = lend(LARGEST + 1, 1);
     *length = fread(bytes, 1, LARGEST + 1, file);
     fclose(file);
     return bytes;
@@ -76,17 +76,17 @@ static void print_refusal(const uint32_t *answer) {
            (unsigned)answer[FACTS_CHUNK], (unsigned)answer[FACTS_INSTRUCTION], (unsigned)answer[FACTS_STEPS]);
 }
 
-int main(int count, char **args) {
-    size_t length;
+static void print_accepted(const uint32_t *answer, const uint8_t *report) {
+    printf("accepted, %u steps, report of %u bytes\n", (unsigned)answer[FACTS_STEPS], (unsigned)answer[FACTS_LENGTH]);
+    print_report(report, answer[FACTS_LENGTH]);
+    print_record(report, answer[FACTS_LENGTH], 0, 2);
+    print_record(report, answer[FACTS_LENGTH], 0, 9);
+}
+
+/* Analyses the description, and prints what comes of it. Returns the status to end with. */
+static int analyse(const uint8_t *description, size_t length, uint8_t *report) {
     uint64_t least[1];
     uint32_t answer[FACTS_ANSWER];
-    if (count != 2) {
-        fputs("facts FILE\n", stderr);
-        return 2;
-    }
-    uint8_t *description = read_file(args[1], &length);
-    uint8_t *report = lend(REPORT, 1);
-
     uint32_t number = facts_words(description, length, least);
     if (number != 0) {
         printf("no good form: %u\n", (unsigned)number);
@@ -97,21 +97,28 @@ int main(int count, char **args) {
     uint32_t *workspace = lend(words, sizeof *workspace);
     printf("%u bytes, least workspace %u words\n", (unsigned)length, (unsigned)least[0]);
 
-    if (facts_check(description, length, workspace, words, report, REPORT, LIMIT, answer) != 0) {
-        print_refusal(answer);
-        return 1;
+    number = facts_check(description, length, workspace, words, report, REPORT, LIMIT, answer);
+    if (number == 0) {
+        print_accepted(answer, report);
+        /* One step too few is refused. */
+        uint32_t few = answer[FACTS_STEPS] - 1;
+        facts_check(description, length, workspace, words, report, REPORT, few, answer);
     }
-    printf("accepted, %u steps, report of %u bytes\n", (unsigned)answer[FACTS_STEPS], (unsigned)answer[FACTS_LENGTH]);
-    print_report(report, answer[FACTS_LENGTH]);
-    print_record(report, answer[FACTS_LENGTH], 0, 2);
-    print_record(report, answer[FACTS_LENGTH], 0, 9);
-
-    /* One step too few is refused. */
-    uint32_t few = answer[FACTS_STEPS] - 1;
-    facts_check(description, length, workspace, words, report, REPORT, few, answer);
     print_refusal(answer);
     free(workspace);
+    return number != 0;
+}
+
+int main(int count, char **args) {
+    if (count != 2) {
+        fputs("facts FILE\n", stderr);
+        return 2;
+    }
+    size_t length;
+    uint8_t *description = read_file(args[1], &length);
+    uint8_t *report = lend(REPORT, 1);
+    int status = analyse(description, length, report);
     free(report);
     free(description);
-    return 0;
+    return status;
 }

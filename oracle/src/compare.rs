@@ -16,6 +16,7 @@ mod trial;
 use oracle::generate::coverage::Coverage;
 use oracle::generate::random::Random;
 use oracle::generate::{Generated, outcome, seed_of, with_measure};
+use oracle::judged::judged;
 use oracle::model::Description;
 use oracle::run::{self, Outcome};
 use oracle::text;
@@ -108,6 +109,9 @@ fn work(shared: &Shared) -> Coverage {
             shared.difference(|| println!("---- seed {seed}: the oracle itself stopped"));
             continue;
         };
+        if !coverage.includes(&one.bytes, judged) {
+            continue;
+        }
         coverage.add(&one.bytes, &expected);
         let found = compare(seed, &one, &expected, &mut buffers)
             .or_else(|| words_differ(&one.bytes, least.map(|words| words + 1).ok_or(expected.number())));
@@ -142,6 +146,9 @@ fn show(seed: u64, one: &Generated, expected: &Outcome, answer: &str, buffers: &
     println!("port:   {answer}");
     // Where it also differs within ample bounds, a smaller one is shown.
     let mut ample = |d: &Description| {
+        if !judged(d) {
+            return None;
+        }
         let (words, report_len, limit) = (d.least_words() + 1000, 1 << 20, 20_000);
         let bytes = d.encode();
         let expected = run::check(&bytes, words, report_len, limit);

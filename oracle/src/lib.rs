@@ -10,6 +10,7 @@ mod probed;
 
 pub mod form;
 pub mod generate;
+pub mod judged;
 pub mod lookup;
 pub mod model;
 pub mod module;

@@ -1,5 +1,6 @@
 //! The command line program `oracle`.
 
+use oracle::judged::judged;
 use oracle::model::{Take, split_field};
 use oracle::run::{self, Outcome};
 use oracle::text;
@@ -59,7 +60,7 @@ fn main() {
         }
         ["coverage", _, ..] if args.len() <= 3 => {
             let (count, seed) = (number(args.get(1), 0), number(args.get(2), 1));
-            print!("{}", oracle::generate::coverage::over(count, seed).table());
+            print!("{}", oracle::generate::coverage::over(count, seed, judged).table());
         }
         _ => stop(USAGE),
     }

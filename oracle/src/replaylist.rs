@@ -9,10 +9,12 @@
 //! First the examples, and one with a `Len` that is never reached. Then those of
 //! `generate`, by number, as long as they are small: the first so many of each
 //! outcome, and any accepted one that has an instruction seldom recorded so far.
-//! Workspace, buffer and limit are the generator's.
+//! Workspace, buffer and limit are the generator's. What types.rs does not judge
+//! is left out.
 
 use oracle::generate::coverage::Coverage;
 use oracle::generate::{Generated, outcome, seed_of, with_measure};
+use oracle::judged::judged;
 use oracle::model::{Description, Instruction, put16, put32};
 use oracle::ops::NAMES;
 use oracle::run::{self, NONE, Outcome};
@@ -43,6 +45,13 @@ struct List {
 }
 
 impl List {
+    /// Stores a description, if types.rs judges it.
+    fn offer(&mut self, one: &Generated, outcome: &Outcome) {
+        if self.coverage.includes(&one.bytes, judged) {
+            self.entry(one, outcome);
+        }
+    }
+
     fn entry(&mut self, one: &Generated, outcome: &Outcome) {
         let (number, chunk, instruction, report) = match outcome {
             Outcome::Accepted { report, .. } => (0, NONE, NONE, &report[..]),
@@ -104,13 +113,13 @@ fn main() {
     for bytes in first {
         let one = Generated { bytes, words: WORDS, report_len: REPORT, limit: 1_000_000 };
         let outcome = run::check(&one.bytes, one.words, one.report_len, one.limit);
-        list.entry(&one, &outcome);
+        list.offer(&one, &outcome);
     }
     for number in 0..LOOKED_AT {
         let (one, measured) = with_measure(seed_of(RUN, number));
         let outcome = outcome(&one, &measured);
         if list.wanted(&one, &outcome) {
-            list.entry(&one, &outcome);
+            list.offer(&one, &outcome);
         }
     }
     std::io::stdout().write_all(&list.out).expect("output");

@@ -38,7 +38,7 @@ fn nothing_differs_from_itself() {
     let (good, output) = compared("3000", "");
     assert!(good);
     assert_eq!(output.lines().last(), Some("3000 compared, 0 differences"));
-    assert!(output.contains("| all | 3000 |"));
+    assert!(output.contains("| all | 3000 |\n| left out by intention | 0 |\n"));
     assert!(output.contains("| CallExternalNative | "));
 }
 

@@ -3,6 +3,7 @@
 
 use oracle::generate::coverage::over;
 use oracle::generate::{generate, outcome, seed_of, with_measure};
+use oracle::judged::judged;
 use oracle::ops;
 use oracle::run::{Outcome, check};
 
@@ -16,7 +17,7 @@ fn a_seed_gives_the_same_again() {
 
 #[test]
 fn every_outcome_and_every_instruction_is_reached() {
-    let coverage = over(20_000, 7);
+    let coverage = over(20_000, 7, judged);
     assert_eq!(coverage.descriptions, 20_000);
     assert_eq!(coverage.outcomes.iter().sum::<u64>(), 20_000);
     for (number, count) in coverage.outcomes.iter().enumerate() {

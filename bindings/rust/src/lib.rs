@@ -54,6 +54,7 @@ impl fmt::Display for By {
     }
 }
 
+/// What each number means, in the words of include/facts.h; a test holds the two together.
 const MEANINGS: [&str; 18] = [
     "bad tag, order or length, a flag not 0 or 1, an enum place or operand with no meaning",
     "over a largest value",
@@ -144,6 +145,7 @@ pub type Outcome = Result<Accepted, Refusal>;
 
 /// The call's numbers as they are: what it returns, and number, chunk,
 /// instruction, steps and length. Workspace and report are as for `check`.
+/// Public for the oracle only, which compares every number.
 pub fn numbers(description: &[u8], workspace: &mut [u32], report: &mut [u8], limit: u32) -> (u32, [u32; 5]) {
     let mut answer = [0; 5];
     // SAFETY: the slices are valid for the whole call, and what is written is borrowed for it alone.
@@ -162,7 +164,7 @@ pub fn numbers(description: &[u8], workspace: &mut [u32], report: &mut [u8], lim
     (number, answer)
 }
 
-/// What an answer's numbers say.
+/// What an answer's numbers say. Public for the oracle only.
 pub fn outcome(answer: [u32; 5]) -> Outcome {
     let [number, chunk, instruction, steps, length] = answer;
     if number == 0 {
@@ -201,4 +203,41 @@ pub fn lookup(report: &[u8], chunk: u16, instruction: u16) -> &[u8] {
     unsafe { raw::facts_lookup(report.as_ptr(), report.len(), chunk, instruction, &mut part) };
     let [first, length] = part.map(|number| number as usize);
     &report[first..first + length]
+}
+
+#[cfg(test)]
+mod tests {
+    use super::*;
+
+    const HEADER: &str = include_str!("../../../include/facts.h");
+
+    /// By whose doing, and the text, of each number in the header's list.
+    fn listed() -> Vec<(By, String)> {
+        let list = HEADER.split("A refusal's number").nth(1).and_then(|rest| rest.split("*/").next());
+        let mut by = By::Exporter;
+        let mut texts: Vec<(By, String)> = Vec::new();
+        for line in list.expect("the list").lines().map(|line| line.trim_start_matches([' ', '*'])) {
+            match line.split_once("  ") {
+                Some((number, text)) if number.parse() == Ok(texts.len() + 1) => texts.push((by, text.into())),
+                _ if line.starts_with("The exporter,") => by = By::Exporter,
+                _ if line.starts_with("The host,") => by = By::Host,
+                _ if line.starts_with("The script's author") => by = By::Author,
+                _ => texts.last_mut().into_iter().for_each(|(_, text)| *text += &format!(" {line}")),
+            }
+        }
+        texts
+    }
+
+    #[test]
+    fn the_header_says_the_same() {
+        let listed = listed();
+        assert_eq!(listed.len(), MEANINGS.len());
+        for (number, (by, text)) in (1..).zip(&listed) {
+            let reason = Reason(number);
+            assert_eq!(reason.by(), *by, "{number}");
+            // The header may go on with what helps a host.
+            let hint = text.strip_prefix(reason.meaning()).unwrap_or_else(|| panic!("{number}: {text}")).trim_end();
+            assert!(hint.is_empty() || hint.starts_with([':', ';']), "{number}: {text}");
+        }
+    }
 }

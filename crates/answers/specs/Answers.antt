@@ -1,13 +1,23 @@
 -- Document 01's numbers and values for each case of an answer.
 use Prim.Native.Nat.{ℕ}
+use mathlib.Core.Bool.{cond}
 use mathlib.Core.List.{List, [], _∷_}
+use lib.Dec.{ltb}
 use Rattle.answers.specs.declared.Refusal.{Refusal}
 use Rattle.answers.specs.declared.Answer.{Answer}
 use Rattle.answers.specs.declared.Answer.the-variants.{Accepted, Refused}
 
+-- a refusal at an instruction of a chunk
+abbrev pub refusal : ℕ → ℕ → ℕ → ℕ → Refusal
+refusal n c i steps = record { number = n; chunk = c; instruction = i; steps = steps }
+
 -- a refusal that names neither chunk nor instruction
 abbrev pub nowhere : ℕ → ℕ → Refusal
-nowhere n steps = record { number = n; chunk = 65535; instruction = 65535; steps = steps }
+nowhere n steps = refusal n 65535 65535 steps
+
+-- the refusal of a field: 1 and 2 name nothing, 3 and 4 what the field is part of
+unfoldable pub inField : ℕ → ℕ → ℕ → Refusal
+inField n c i = cond (ltb n 3) (nowhere n 0) (refusal n c i 0)
 
 -- an answer as numbers: the refusal's number or 0, the chunk and the instruction that it names, the steps, the report's length
 unfoldable pub numbers : Answer → List ℕ

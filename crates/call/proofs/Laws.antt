@@ -9,11 +9,11 @@ use lib.ListN.{length, getD, replicate}
 use Rattle.answers.specs.declared.Refusal.{Refusal}
 use Rattle.answers.specs.declared.Answer.{Answer}
 use Rattle.answers.specs.declared.Answer.the-variants.{Refused}
-use Rattle.answers.specs.Answers.{numbers}
+use Rattle.answers.specs.Answers.{numbers, nowhere}
 use Rattle.definition.specs.declared.Form.{Form}
 use Rattle.definition.specs.declared.Form.the-variants.{Fine}
 use Rattle.definition.specs.declared.Form.the-variants.{Refused as Malformed}
-use Rattle.definition.specs.Form.{formOf, nowhere}
+use Rattle.definition.specs.Form.{formOf}
 use Rattle.definition.specs.Module.{moduleOf}
 use Rattle.definition.specs.Call.{turned, decided, decide, turnedBack, outcomeOf, call}
 use Rattle.form_laws.specs.Good.{Good, wordsOf}

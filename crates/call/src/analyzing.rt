@@ -4,7 +4,7 @@ use answers::nowhere;
 use layout::Tables;
 use report_size::measure;
 use report_write::write;
-use run::Ran;
+use run::RunEnd;
 use run::run;
 use start::Started;
 use start::start;
@@ -47,8 +47,8 @@ pub fn analyze(s: &[u8], ws: &mut [u32], buf: &mut [u8], t: Tables, limit: u32) 
     match start(s, ws, t) {
         Started::Refused(r) => Answer::Refused(r),
         Started::Ready(reply) => match run(s, ws, t, limit) {
-            Ran::Stop(r) => Answer::Refused(r),
-            Ran::Done(steps) => deliver(s, ws, buf, t, reply, steps),
+            RunEnd::Stop(r) => Answer::Refused(r),
+            RunEnd::Done(steps) => deliver(s, ws, buf, t, reply, steps),
         },
     }
 }

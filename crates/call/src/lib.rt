@@ -1,4 +1,5 @@
-// The whole call: refusals 1 to 5, the index, the analysis; the workspace is cleared at the end.
+// The whole call: refusals 1 to 5, the index, the analysis (`analyzing`: 9 to 12, the run, the report with 6). The workspace is cleared at
+// the end.
 mod analyzing;
 
 use analyzing::analyze;

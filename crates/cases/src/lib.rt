@@ -1,1 +1,1 @@
-// The definition, evaluated on small descriptions: see specs/.
+// No code. The definition, evaluated on small descriptions: see specs/.

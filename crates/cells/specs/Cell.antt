@@ -4,7 +4,8 @@ use mathlib.Core.Bool.{Bool, cond, not, _&&_}
 use lib.Count.{trailingZeros}
 use lib.ListN.{getD}
 use Rattle.masks.specs.declared.Mask.{Mask}
-use Rattle.masks.specs.Mask.{of, union, same, kind, oneKind, has}
+use Rattle.masks.specs.Mask.{union, same, kind, oneKind, has}
+use Rattle.masks.specs.Names.{UNIT, ENUM, BODY}
 use Rattle.widths.specs.declared.Width.{Width}
 use Rattle.widths.specs.declared.Width.the-variants.{Unknown as Wide, Scalar, Body}
 use Rattle.widths.specs.declared.Shape.{Shape}
@@ -26,7 +27,7 @@ ownedWidth (Body n) owns = cond owns Yes No
 
 -- a local that was not written
 unfoldable pub unitCell : Cell
-unitCell = record { mask = of 1; width = Scalar 0; flow = noFlow }
+unitCell = record { mask = UNIT; width = Scalar 0; flow = noFlow }
 
 -- what a rule that gives only a mask makes of it
 unfoldable pub made : Mask → ℕ → Cell
@@ -63,11 +64,11 @@ bareCell x = record { mask = x .mask; width = x .width; flow = bare (x .flow) }
 
 -- the cell once its value is known to be an enum; its other extents stay
 unfoldable pub narrowEnum : Cell → Cell
-narrowEnum x = record { mask = of 2048; width = exactWidth (getD (x .flow .bodies) 3 absent); flow = x .flow }
+narrowEnum x = record { mask = ENUM; width = exactWidth (getD (x .flow .bodies) 3 absent); flow = x .flow }
 
 -- the size of a value of one kind, a body's from the extent of its kind
 unfoldable pub guardedWidth : Mask → Flow → ℕ → Width
 guardedWidth m f float =
-    cond (oneKind m && has (kind m) (of 3840))
+    cond (oneKind m && has (kind m) BODY)
     (exactWidth (getD (f .bodies) (trailingZeros 16 (kind m .bits) - 8) absent))
     (scalarWidth m float)

@@ -11,7 +11,8 @@ ghost use Rattle.extents.specs.Extent.{exactWidth};
 ghost use Rattle.flows.specs.Flow.{absent};
 ghost use Rattle.cells.specs.Cell.{guardedWidth};
 
-// The size of a value of one kind, a body's from the extent of its kind.
+// The size of a value of one kind, a body's from the extent of its kind. No caller here: document 01 asks for it. As in types.rs it serves
+// later passes.
 pub fn guarded_width(mask: Mask, flow: Flow, float: u32) -> Width
     ensures { λ r. ⌜ r ≡ guardedWidth mask flow float ⌝ }
 {

@@ -1,4 +1,4 @@
-// Cells: mask, width and flow of one place, joined, made, declared and narrowed.
+// Cells: mask, width and flow of one place, joined, made, declared and narrowed; and the width behind a guard (`guarding`).
 mod guarding;
 
 pub use guarding::guarded_width;

@@ -10,7 +10,7 @@ use layout::place_at;
 use masks::Mask;
 use ops::Asks;
 use slots::write_check;
-use visit::Visit;
+use visit::RowVisit;
 use visit::common_kinds;
 use visit::operand_mask;
 use visit::slots_of;
@@ -29,12 +29,12 @@ ghost use Rattle.definition.specs.declared.Check.the-variants.{Fine};
 ghost use Rattle.definition.specs.Module.{moduleOf};
 ghost use Rattle.definition.specs.Data.{slotCount, slotsFrom};
 ghost use Rattle.definition.specs.Outputs.{noCell};
-ghost use Rattle.definition.specs.Wants.{require, writeCheck, atIndex, wantOf, isEntry};
+ghost use Rattle.definition.specs.Wants.{require, writeCheck, atIndex, declaredKinds, wantOf, isEntry};
 ghost use Rattle.layout.specs.Indexed.{Indexed, tablesOf, chunkAt};
 ghost use Rattle.visit.specs.Held.{Looking, Standing, argsIn, factsIn, visitIn};
-ghost use Rattle.checks.specs.asked.Proving.{declaredBy, placesBy, foundIn, Asking};
+ghost use Rattle.checks.specs.asked.Proving.{placesBy, foundIn, Asking};
 
-fn yielded_mask(s: &[u8], v: Visit) -> Mask
+fn yielded_mask(s: &[u8], v: RowVisit) -> Mask
     requires { ⌜ v .field < 2 ^ 61 ⌝ }
     ensures { λ r. ⌜ r ≡ shapeMask (yieldedOf (now (s .entry)) (v .field)) ⌝ }
 {
@@ -50,10 +50,10 @@ fn result_mask(s: &[u8], ch: Chunk) -> Mask
     shape.mask()
 }
 
-fn declared_mask(s: &[u8], ch: Chunk, v: Visit) -> Mask
+fn declared_mask(s: &[u8], ch: Chunk, v: RowVisit) -> Mask
     requires { ⌜ (v .field < 2 ^ 61) × (ch .at < 2 ^ 62) ⌝ }
     ensures { λ r. ⌜
-        r ≡ declaredBy (v .rule .asks) (shapeMask (yieldedOf (now (s .entry)) (v .field)))
+        r ≡ declaredKinds (v .rule .asks) (shapeMask (yieldedOf (now (s .entry)) (v .field)))
         (shapeMask (resultOf (now (s .entry)) (ch .at)))
         ⌝ }
 {
@@ -67,7 +67,7 @@ fn declared_mask(s: &[u8], ch: Chunk, v: Visit) -> Mask
 }
 
 // The kinds that the first two operands have in common.
-fn ends_kinds(ws: &[u32], v: Visit) -> Mask
+fn pair_kinds(ws: &[u32], v: RowVisit) -> Mask
     requires { ⌜ Standing (now ws) v ⌝ }
     ensures { λ r. ⌜
         r ≡ common (kind (getD (argsIn (now (ws .entry)) v) 0 noCell .mask)) (kind (getD (argsIn (now (ws .entry)) v) 1 noCell .mask))
@@ -78,11 +78,11 @@ fn ends_kinds(ws: &[u32], v: Visit) -> Mask
     a.kind().common(b.kind())
 }
 
-pub fn want_at(s: &[u8], ws: &[u32], ch: Chunk, v: Visit, entry: bool) -> Want
+pub fn want_at(s: &[u8], ws: &[u32], ch: Chunk, v: RowVisit, entry: bool) -> Want
     requires { ⌜ Looking (now s) (now ws) v ⌝ }
     requires { ⌜ ch ≡ chunkAt (now s) (now ws) (v .chunk) ⌝ }
     requires { ⌜ entry ≡ isEntry (visitIn (now s) (now ws) v) ⌝ }
-    ensures { λ r. ⌜ r ≡ wantOf (visitIn (now (s .entry)) (now (ws .entry)) v) (v .rule .asks) ⌝ }
+    ensures { λ r. ⌜ r ≡ wantOf (visitIn (now (s .entry)) (now (ws .entry)) v) ⌝ }
 {
     let rule = v.rule;
     let asks = rule.asks;
@@ -92,7 +92,7 @@ pub fn want_at(s: &[u8], ws: &[u32], ch: Chunk, v: Visit, entry: bool) -> Want
         slots,
         v.ins,
         common_kinds(ws, v),
-        ends_kinds(ws, v),
+        pair_kinds(ws, v),
         declared_mask(s, ch, v),
         entry,
     )
@@ -109,7 +109,7 @@ fn at_index(k: usize, index: usize, actual: Mask, allowed: Mask) -> Check
 }
 
 // What is written, the first operand, fits each slot.
-fn value_check(s: &[u8], ws: &[u32], t: Tables, v: Visit, p: usize, m: Mask) -> Check
+fn value_check(s: &[u8], ws: &[u32], t: Tables, v: RowVisit, p: usize, m: Mask) -> Check
     requires { ⌜ Indexed (now s) (now ws) ⌝ }
     requires { ⌜ t ≡ tablesOf (now s) ⌝ }
     requires { ⌜ v .ins .a + slotCount (v .ins) (v .rule .slots) ≤ t .slots ⌝ }
@@ -127,7 +127,7 @@ fn value_check(s: &[u8], ws: &[u32], t: Tables, v: Visit, p: usize, m: Mask) -> 
 }
 
 // What is asked of the value at a stack place.
-pub fn check_place(s: &[u8], ws: &[u32], t: Tables, v: Visit, want: Want, p: usize) -> Check
+pub fn check_place(s: &[u8], ws: &[u32], t: Tables, v: RowVisit, want: Want, p: usize) -> Check
     requires { ⌜ Asking (now s) (now ws) v want ⌝ }
     requires { ⌜ t ≡ tablesOf (now s) ⌝ }
     requires { ⌜ (placesBy v (want .ask) .from ≤ p) × (p < placesBy v (want .ask) .end) ⌝ }
@@ -159,7 +159,7 @@ pub struct Places {
     pub end: usize,
 }
 
-pub fn places_asked(v: Visit, want: Want) -> Places
+pub fn places_asked(v: RowVisit, want: Want) -> Places
     requires { ⌜ (want .ask ≡ Below → 0 < v .start) ⌝ }
     ensures { λ r. ⌜ r ≡ placesBy v (want .ask) ⌝ }
 {

@@ -3,30 +3,23 @@ use layout::Tables;
 use ops::Acts;
 use ops::Asks;
 use slots::data_fault;
-use visit::Visit;
+use visit::RowVisit;
 ghost use mathlib.Core.Path.{_≡_};
 ghost use Prim.Native.Nat.{_<_};
 ghost use Rattle.ops.specs.declared.Acts.the-variants.{Calls};
-ghost use Rattle.definition.specs.Leaves.{always};
+ghost use Rattle.definition.specs.Leaves.{hopeless, isReturn, always};
 ghost use Rattle.layout.specs.Indexed.{tablesOf};
 ghost use Rattle.visit.specs.Held.{Looking, visitIn};
-ghost use Rattle.checks.specs.refusals.Never.{hopelessBy, isReturn, neverProven};
+ghost use Rattle.checks.specs.refusals.Never.{neverProven};
 
+// A boxed part is asked for, or there is no rule at all.
 fn boxed_part(asks: Asks, form: u32) -> bool
-    ensures { λ r. ⌜ r ≡ hopelessBy asks form ⌝ }
+    ensures { λ r. ⌜ r ≡ hopeless asks form ⌝ }
 {
     match asks {
         Asks::PartOf(_) => 1 < form,
         Asks::Never => true,
-        Asks::Free => false,
-        Asks::First(_) => false,
-        Asks::Both(_, _) => false,
-        Asks::Yielded => false,
-        Asks::Returned => false,
-        Asks::Every(_) => false,
-        Asks::Ordered => false,
-        Asks::Same(_) => false,
-        Asks::Stored => false,
+        _ => false,
     }
 }
 
@@ -35,17 +28,12 @@ fn returns(acts: Acts) -> bool
 {
     match acts {
         Acts::Returns => true,
-        Acts::Still => false,
-        Acts::SetsLocal => false,
-        Acts::Yields => false,
-        Acts::Calls => false,
-        Acts::Resets => false,
-        Acts::Stores => false,
+        _ => false,
     }
 }
 
 // What no mode accepts: fewer values than are taken, a boxed field, `Len`, no value to return.
-fn never_proven(v: Visit) -> bool
+fn never_proven(v: RowVisit) -> bool
     ensures { λ r. ⌜ r ≡ neverProven v ⌝ }
 {
     let ins = v.ins;
@@ -56,10 +44,10 @@ fn never_proven(v: Visit) -> bool
 }
 
 // The refusal that a visit meets in the rounds and in validation alike: 13, 14, or 0 for none.
-pub fn always_fault(s: &[u8], ws: &[u32], t: Tables, v: Visit) -> u8
+pub fn always_fault(s: &[u8], ws: &[u32], t: Tables, v: RowVisit) -> u8
     requires { ⌜ Looking (now s) (now ws) v ⌝ }
     requires { ⌜ t ≡ tablesOf (now s) ⌝ }
-    ensures { λ r. ⌜ r ≡ always (visitIn (now (s .entry)) (now (ws .entry)) v) (v .height) ⌝ }
+    ensures { λ r. ⌜ r ≡ always (visitIn (now (s .entry)) (now (ws .entry)) v) ⌝ }
 {
     if never_proven(v) {
         return 13;

@@ -10,7 +10,7 @@ use extents::Extent;
 use layout::Chunk;
 use layout::Tables;
 use ops::Makes;
-use visit::Visit;
+use visit::RowVisit;
 use visit::constructed_at;
 ghost use mathlib.Core.Path.{_≡_};
 ghost use Prim.Native.Nat.{_+_, _<_};
@@ -31,7 +31,7 @@ fn is_proven(c: Check) -> bool
     }
 }
 
-fn places_proven(s: &[u8], ws: &[u32], t: Tables, v: Visit, want: Want) -> bool
+fn places_proven(s: &[u8], ws: &[u32], t: Tables, v: RowVisit, want: Want) -> bool
     requires { ⌜ Asking (now s) (now ws) v want ⌝ }
     requires { ⌜ t ≡ tablesOf (now s) ⌝ }
     ensures { λ r. ⌜ r ≡ allProven (askedIn (now (s .entry)) (now (ws .entry)) v want) ⌝ }
@@ -69,7 +69,7 @@ fn unbounded(e: Extent) -> bool
 }
 
 // A flat construction whose operands do not pack within it.
-fn unpacked(s: &[u8], ws: &[u32], t: Tables, v: Visit) -> bool
+fn unpacked(s: &[u8], ws: &[u32], t: Tables, v: RowVisit) -> bool
     requires { ⌜ Looking (now s) (now ws) v ⌝ }
     requires { ⌜ t ≡ tablesOf (now s) ⌝ }
     ensures { λ r. ⌜ r ≡ unpacked (visitIn (now (s .entry)) (now (ws .entry)) v) (v .rule .makes) ⌝ }
@@ -88,12 +88,12 @@ fn unpacked(s: &[u8], ws: &[u32], t: Tables, v: Visit) -> bool
 }
 
 // What validation refuses a visit for: 13, 15, or 0 for nothing.
-pub fn proven(s: &[u8], ws: &[u32], t: Tables, ch: Chunk, v: Visit, entry: bool) -> u8
+pub fn proven(s: &[u8], ws: &[u32], t: Tables, ch: Chunk, v: RowVisit, entry: bool) -> u8
     requires { ⌜ Looking (now s) (now ws) v ⌝ }
     requires { ⌜ t ≡ tablesOf (now s) ⌝ }
     requires { ⌜ ch ≡ chunkAt (now s) (now ws) (v .chunk) ⌝ }
     requires { ⌜ entry ≡ isEntry (visitIn (now s) (now ws) v) ⌝ }
-    requires { ⌜ always (visitIn (now s) (now ws) v) (v .height) ≡ 0 ⌝ }
+    requires { ⌜ always (visitIn (now s) (now ws) v) ≡ 0 ⌝ }
     ensures { λ r. ⌜ r ≡ unfit (visitIn (now (s .entry)) (now (ws .entry)) v) ⌝ }
 {
     let want = want_at(s, ws, ch, v, entry);

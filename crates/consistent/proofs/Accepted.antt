@@ -5,9 +5,9 @@ use mathlib.Core.Bool.{Bool, true, false, cond}
 use mathlib.Core.List.{List, _++_}
 use lib.Dec.{ltb}
 use lib.ListN.{length, drop, replicate}
+use Rattle.answers.specs.Answers.{nowhere}
 use Rattle.answers.specs.declared.Answer.the-variants.{Accepted}
 use Rattle.definition.specs.Module.{moduleOf}
-use Rattle.definition.specs.Form.{nowhere}
 use Rattle.definition.specs.Report.{Report, reportBytes}
 use Rattle.definition.specs.Call.{Decided, reported, turned, decide, Outcome, turnedBack, delivered, outcomeOf, call}
 use Rattle.masks.proofs.Both.{never}

@@ -13,12 +13,12 @@ use Rattle.definition.specs.Module.{Module, Chunk, Line, moduleOf}
 use Rattle.definition.specs.Leaves.{lineAt, noLine}
 use Rattle.definition.specs.Start.{declaredParams, firstFacts}
 use Rattle.definition.specs.Form.{callee, formOf}
-use Rattle.form_laws.specs.Good.{noChunk, chunkNo, lineNo, LineGood, ChunkGood}
+use Rattle.form_laws.specs.Good.{noChunk, chunkNo, LineGood, ChunkGood}
 use Rattle.form_laws.proofs.Each.{mem-at, map-at}
 use Rattle.form_laws.proofs.Theorem.{good-form}
 use Rattle.rule_laws.proofs.Told.{call-callee}
-use Rattle.consistent.specs.Consistent.{lineOf}
 use Rattle.consistent.proofs.Range.{CallsFit}
+use Rattle.ops.specs.Numbers.{opCall}
 
 -- the declared inputs of a callee are its parameters
 inputs-of : (m : Module) (a : ℕ) → m .signatures ≤ length (m .chunks) → a < m .signatures
@@ -30,7 +30,7 @@ inputs-of m a l h =
     ap length (map-at (declaredParams m) signed a noChunk [] k) ∙ rw (getD-take (m .signatures) (m .chunks) a noChunk h, length-map)
 
 -- an instruction that calls is one of the code
-in-code : (c : Chunk) (i : ℕ) → lineOf c i .instr .op ≡ 30 → i < length (c .code)
+in-code : (c : Chunk) (i : ℕ) → lineAt c i .instr .op ≡ opCall → i < length (c .code)
 unfolding lineAt
 in-code c i e = go (ltb i (length (c .code))) refl
   where
@@ -42,11 +42,11 @@ in-code c i e = go (ltb i (length (c .code))) refl
 
 -- THEOREM: a call takes no more than its callee's parameters
 pub calls-fit : (s : List ℕ) (w : ℕ) → formOf s ≡ Fine w → CallsFit (moduleOf s)
-unfolding chunkNo lineNo lineAt
+unfolding chunkNo lineAt
 calls-fit s w h c k i e =
     let good = good-form s w h in
     let (n, l, q) = mem-at noChunk (moduleOf s .chunks) k in
     let chunk : ChunkGood (moduleOf s) n c = rw q at (good .eachChunk n l) in
-    let line : LineGood (moduleOf s) c (lineOf c i) = chunk .lines i (in-code c i e) in
-    let a = inputs-of (moduleOf s) (lineOf c i .instr .a) (good .signatures) (line .callee (call-callee (lineOf c i .instr .op) e)) in
+    let line : LineGood (moduleOf s) c (lineAt c i) = chunk .lines i (in-code c i e) in
+    let a = inputs-of (moduleOf s) (lineAt c i .instr .a) (good .signatures) (line .callee (call-callee (lineAt c i .instr .op) e)) in
     omega (arith, a, line .call e)

@@ -5,13 +5,14 @@ use mathlib.Core.Bool.{Bool, true, false, cond}
 use mathlib.Core.Option.{Option, none, some}
 use mathlib.Core.List.{List}
 use lib.Dec.{leb}
+use Rattle.answers.specs.Answers.{nowhere}
 use Rattle.definition.specs.declared.Form.{Form}
 use Rattle.definition.specs.declared.Form.the-variants.{Fine, Refused}
 use Rattle.definition.specs.Machine.{Ran, accepted, refused, Final}
 use Rattle.definition.specs.Module.{Module, moduleOf}
 use Rattle.definition.specs.State.{State, Facts, join}
 use Rattle.definition.specs.Leaves.{Known, leaves, absorb, opened, closed, moved}
-use Rattle.definition.specs.Form.{formOf, nowhere}
+use Rattle.definition.specs.Form.{formOf}
 use Rattle.definition.specs.Start.{admitted, firstFacts, overfull, replyMaximum, knownOf, start, afterChunk}
 use Rattle.definition.specs.Report.{Report, reportOf}
 use Rattle.definition.specs.Call.{runOf, reported, turned, onRan, admittedRun, onReply, known, onAdmitted, decided, onForm, decide}

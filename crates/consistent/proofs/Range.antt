@@ -21,13 +21,13 @@ use Rattle.definition.specs.Data.{slotCount, slotsFrom, dataFault}
 use Rattle.definition.specs.Outputs.{Visit, instr}
 use Rattle.definition.specs.Wants.{isEntry}
 use Rattle.definition.specs.Wants.{returned as valueBelow}
-use Rattle.definition.specs.Leaves.{Known, visitOf, always, givesBy, gives}
+use Rattle.definition.specs.Leaves.{Known, visitOf, always, givesBy, gives, lineAt}
 use Rattle.definition.specs.Start.{firstFacts}
 use Rattle.rule_laws.proofs.Faults.{no-fault, always-parts}
 use Rattle.rule_laws.proofs.Told.{call-is}
-use Rattle.consistent.specs.Consistent.{lineOf}
 use Rattle.consistent.proofs.Absorb.{Declared}
 use Rattle.consistent.proofs.Records.{Numbered, as-many, first-masks}
+use Rattle.ops.specs.Numbers.{opCall}
 
 -- ---- slots
 row-below : (i k n : ℕ) → List·Memᴰ n (row (λ j. j) i k) → n < i + k
@@ -68,8 +68,8 @@ signed-below m k c h l =
 -- a call takes no more than its callee's parameters
 abbrev pub CallsFit : Module → Type 0
 CallsFit m =
-    (c : Chunk) → List·Memᴰ c (m .chunks) → (i : ℕ) → lineOf c i .instr .op ≡ 30
-    → lineOf c i .instr .taken ≤ length (getD (firstFacts m .inputs) (lineOf c i .instr .a) [])
+    (c : Chunk) → List·Memᴰ c (m .chunks) → (i : ℕ) → lineAt c i .instr .op ≡ opCall
+    → lineAt c i .instr .taken ≤ length (getD (firstFacts m .inputs) (lineAt c i .instr .a) [])
 
 -- ---- any gift
 abbrev pub Placed : Facts → Gift → Type 0
@@ -96,11 +96,11 @@ placed-by f v Resets p q r = tt
 
 pub placed : (k : Known) → Numbered 0 (k .code .chunks) → CallsFit (k .code) → (f : Facts) → Declared (k .code) f → (c : Chunk)
     → List·Memᴰ c (k .code .chunks) → c .number < k .code .signatures → (i : ℕ) (s : State)
-    → always (visitOf k c f (lineOf c i) s) (length (s .stack)) ≡ 0 → Placed f (gives (visitOf k c f (lineOf c i) s))
+    → always (visitOf k c f i s) ≡ 0 → Placed f (gives (visitOf k c f i s))
 unfolding gives visitOf
 placed k numbers calls f z c h l i s w =
-    let x = lineOf c i .instr in
-    placed-by f (visitOf k c f (lineOf c i) s) (ruleOf (x .op) .acts)
+    let x = lineAt c i .instr in
+    placed-by f (visitOf k c f i s) (ruleOf (x .op) .acts)
     (λ u. rw (length-drop, z .rows (x .a)) (omega (arith, calls c h i (call-is (x .op) u))))
     (rw (as-many (k .code) f z, z .inputs .size) (signed-below (k .code) numbers c h l))
-    (λ n q. rw (z .masks .size, first-masks (k .code)) (slots-below (k .code) x (ruleOf (x .op) .slots) (always-parts (visitOf k c f (lineOf c i) s) (length (s .stack)) w .1) n q))
+    (λ n q. rw (z .masks .size, first-masks (k .code)) (slots-below (k .code) x (ruleOf (x .op) .slots) (always-parts (visitOf k c f i s) w .1) n q))

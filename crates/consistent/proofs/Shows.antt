@@ -12,7 +12,7 @@ use Rattle.definition.specs.Module.{Chunk}
 use Rattle.definition.specs.State.{State}
 use Rattle.definition.specs.Start.{last}
 use Rattle.definition.specs.Report.{Branch, Inspection, branchOf, inspectionOf, isTest, saysFalse}
-use Rattle.consistent.specs.Consistent.{lineOf}
+use Rattle.definition.specs.Leaves.{lineAt}
 
 abbrev pub Told : State → Branch → Type 0
 Told s b = ((b .value ≡ 0) × (last (s .stack) .mask ≡ FALSE)) ⊎ ((b .value ≡ 1) × (last (s .stack) .mask ≡ TRUE))
@@ -20,20 +20,20 @@ Told s b = ((b .value ≡ 0) × (last (s .stack) .mask ≡ FALSE)) ⊎ ((b .valu
 pub record Branches (c : Chunk) (i : ℕ) (s : State) (b : Branch) : Type 0 where
   pub of-chunk : b .chunk ≡ c .number
   pub at : b .instruction ≡ i
-  pub tests : isTest (ruleOf (lineOf c i .instr .op) .exit) ≡ true
+  pub tests : isTest (ruleOf (lineAt c i .instr .op) .exit) ≡ true
   pub told : Told s b
 
 pub branch-shows : (c : Chunk) (i : ℕ) (s : State) (b : Branch) → List·Memᴰ b (branchOf c i s) → Branches c i s b
 unfolding branchOf
 branch-shows c i s b m =
-    go (isTest (ruleOf (lineOf c i .instr .op) .exit)) (same (last (s .stack) .mask) FALSE) (same (last (s .stack) .mask) TRUE) refl refl refl m
+    go (isTest (ruleOf (lineAt c i .instr .op) .exit)) (same (last (s .stack) .mask) FALSE) (same (last (s .stack) .mask) TRUE) refl refl refl m
   where
-    shows : (v : ℕ) → isTest (ruleOf (lineOf c i .instr .op) .exit) ≡ true → ((b .value ≡ v) → Told s b)
+    shows : (v : ℕ) → isTest (ruleOf (lineAt c i .instr .op) .exit) ≡ true → ((b .value ≡ v) → Told s b)
         → b ≡ record { chunk = c .number; instruction = i; value = v } → Branches c i s b
     shows v t k e =
         record { of-chunk = ap (λ (z : Branch). z .chunk) e; at = ap (λ (z : Branch). z .instruction) e; tests = t; told = k (ap (λ (z : Branch). z .value) e) }
 
-    go : (t x y : Bool) → isTest (ruleOf (lineOf c i .instr .op) .exit) ≡ t → same (last (s .stack) .mask) FALSE ≡ x → same (last (s .stack) .mask) TRUE ≡ y
+    go : (t x y : Bool) → isTest (ruleOf (lineAt c i .instr .op) .exit) ≡ t → same (last (s .stack) .mask) FALSE ≡ x → same (last (s .stack) .mask) TRUE ≡ y
         → List·Memᴰ b
         (cond t
         (cond x (record { chunk = c .number; instruction = i; value = 0 } ∷ []) (cond y (record { chunk = c .number; instruction = i; value = 1 } ∷ []) []))
@@ -47,13 +47,13 @@ branch-shows c i s b m =
 pub record Inspects (c : Chunk) (i : ℕ) (s : State) (y : Inspection) : Type 0 where
   pub of-chunk : y .chunk ≡ c .number
   pub at : y .instruction ≡ i
-  pub told : saysFalse (ruleOf (lineOf c i .instr .op) .others) (last (s .stack)) ≡ true
+  pub told : saysFalse (ruleOf (lineAt c i .instr .op) .others) (last (s .stack)) ≡ true
 
 pub inspection-shows : (c : Chunk) (i : ℕ) (s : State) (y : Inspection) → List·Memᴰ y (inspectionOf c i s) → Inspects c i s y
 unfolding inspectionOf
-inspection-shows c i s y m = go (saysFalse (ruleOf (lineOf c i .instr .op) .others) (last (s .stack))) refl m
+inspection-shows c i s y m = go (saysFalse (ruleOf (lineAt c i .instr .op) .others) (last (s .stack))) refl m
   where
-    go : (t : Bool) → saysFalse (ruleOf (lineOf c i .instr .op) .others) (last (s .stack)) ≡ t
+    go : (t : Bool) → saysFalse (ruleOf (lineAt c i .instr .op) .others) (last (s .stack)) ≡ t
         → List·Memᴰ y (cond t (record { chunk = c .number; instruction = i } ∷ []) []) → Inspects c i s y
     go false p m = absurd (List·Memᴰ·not-nil m)
     go true p m =

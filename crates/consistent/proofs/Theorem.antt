@@ -26,7 +26,7 @@ use Rattle.form_laws.proofs.Each.{row-at}
 use Rattle.machine_laws.proofs.Bind.{none≢some}
 use Rattle.rule_laws.proofs.Faults.{low-enough}
 use Rattle.form_laws.proofs.Admitted.{Admitted, all-admitted}
-use Rattle.consistent.specs.Consistent.{Consistent, ConsistentChunk, Recorded, Reached, first, then, lineOf, GivenIn, Fine, DeclaredIn, Leaves, KnownBranch, FalseInspection, visitAt, factsOf, stateOf, TakesIn}
+use Rattle.consistent.specs.Consistent.{Consistent, ConsistentChunk, Recorded, Reached, first, then, GivenIn, Fine, DeclaredIn, Leaves, KnownBranch, FalseInspection, visitAt, factsOf, stateOf, TakesIn}
 use Rattle.consistent.proofs.Shows.{Branches, Inspects, branch-shows, inspection-shows, shown-branch, shown-inspection}
 use Rattle.consistent.proofs.Rows.{taken-at}
 use Rattle.consistent.proofs.States.{cell-grows, cells-grows, cells-over, all-in, takes-in}
@@ -143,9 +143,9 @@ module _ (m : Module) (numbers : Numbered 0 (m .chunks)) (admits : admitted m (m
     states i s r = unsaid K reply x numbers c st i s b r
 
     -- the visit of a record, read with the printed facts, is that of the run
-    visit-is : (i : ℕ) (s : State) → visitAt m R c i s ≡ visitOf K c (x .facts) (lineOf c i) s
+    visit-is : (i : ℕ) (s : State) → visitAt m R c i s ≡ visitOf K c (x .facts) i s
     unfolding visitAt
-    visit-is i s = ap (λ (f : Facts). visitOf K c f (lineOf c i) s) back
+    visit-is i s = ap (λ (f : Facts). visitOf K c f i s) back
 
     reaches : {i : ℕ} → Trail join (leaves K true c (x .facts)) st i → Reached m R c i
     reaches begin = first
@@ -192,7 +192,7 @@ module _ (m : Module) (numbers : Numbered 0 (m .chunks)) (admits : admitted m (m
           (record {
             fits = w .fits;
             proven = w .proven;
-            height = low-enough (visitOf K c (x .facts) (lineOf c i) s) (w .low);
+            height = low-enough (visitOf K c (x .facts) i s) (w .low);
             inspected = after-none c st (fixed .quiet-after) i s (states i s r);
           })
 

@@ -19,13 +19,12 @@ use Rattle.definition.specs.Module.{Chunk, Line}
 use Rattle.definition.specs.State.{State, Facts, Gift}
 use Rattle.definition.specs.Outputs.{Visit, arg, instr}
 use Rattle.definition.specs.Wants.{unfit}
-use Rattle.definition.specs.Ways.{branch, narrowing, along, onWay, leavingBy, leaving}
-use Rattle.definition.specs.Leaves.{Known, lineAt, noLine, visitOf, always, gives, unless, heightFault, visited, leaves}
+use Rattle.definition.specs.Ways.{branch, narrowedOn, along, onWay, leavingBy, leaving}
+use Rattle.definition.specs.Leaves.{Known, lineAt, visitOf, always, gives, unless, heightFault, visited, leaves}
 use Rattle.definition.specs.Start.{start, filled, stateFault, inspected, afterChunk}
 use Rattle.form_laws.proofs.Each.{suc-out}
 use Rattle.masks.proofs.Both.{never}
 use Rattle.machine_laws.proofs.Bind.{none≢some}
-use Rattle.consistent.specs.Consistent.{lineOf}
 
 -- ---- the effect of an accepted visit
 unless-use : {A B : Type 0} (n : ℕ) (r : Res A) (a : A) → unless n r ≡ ok a → (n ≡ 0 → r ≡ ok a → B) → B
@@ -33,18 +32,18 @@ unless-use zero r a h k = k refl h
 unless-use (suc n) r a h k = never (cc)
 
 -- no refusal but for what validation asks, and its effect
-pub record Accepted (v : Bool) (x : Visit) (height i : ℕ) (e : Effect State Gift) : Type 0 where
-  pub fits : always x height ≡ 0
+pub record Accepted (v : Bool) (x : Visit) (e : Effect State Gift) : Type 0 where
+  pub fits : always x ≡ 0
   pub proven : cond v (unfit x) 0 ≡ 0
   pub low : heightFault x ≡ 0
-  pub is : record { ways = leaving x i; gives = gives x } ≡ e
+  pub is : record { ways = leaving x; gives = gives x } ≡ e
 
 pub accepted : (k : Known) (v : Bool) (c : Chunk) (f : Facts) (i : ℕ) (s : State) (e : Effect State Gift) → leaves k v c f i s ≡ ok e
-    → Accepted v (visitOf k c f (lineOf c i) s) (length (s .stack)) i e
+    → Accepted v (visitOf k c f i s) e
 unfolding leaves visited
 accepted k v c f i s e h =
-    let x = visitOf k c f (lineOf c i) s in
-    unless-use (always x (length (s .stack))) _ e h λ p h₁.
+    let x = visitOf k c f i s in
+    unless-use (always x) _ e h λ p h₁.
     unless-use (cond v (unfit x) 0) _ e h₁ λ q h₂.
     unless-use (heightFault x) _ e h₂ λ u h₃.
     record { fits = p; proven = q; low = u; is = cc }
@@ -74,7 +73,7 @@ branch-in condition jumps stays next target to h = go (sameMask condition jumps)
 -- what leaves along the ways, and back: each way that is not cut
 module _ (v : Visit) (x : State) where
   abbrev goes : ℕ → Option State
-  goes to = along x (narrowing (v .rule .exit) (arg v 0 .flow .predicate) (instr v .a) to)
+  goes to = along x (narrowedOn v to)
 
   abbrev Left : List ℕ → ℕ → State → Type 0
   Left tos t y = List·Memᴰ {A = ℕ × State} (t, y) (leavingBy v x tos)
@@ -138,21 +137,21 @@ start-first c f h =
     getD-set-same (replicate (length (c .code)) none) 0 (some (begun c f)) none (rw (length-replicate {A = Option State} (length (c .code)) none) h)
 
 -- ---- after a chunk's validation no state is at fault
-inspected-none : (ls : List Line) (i : ℕ) (ss : List (Option State)) → inspected ls i ss ≡ none → (j : ℕ) (s : State) → getD ss j none ≡ some s
-    → stateFault (lineAt ls (i + j) noLine) (some s) ≡ 0
+inspected-none : (c : Chunk) (i : ℕ) (ss : List (Option State)) → inspected c i ss ≡ none → (j : ℕ) (s : State) → getD ss j none ≡ some s
+    → stateFault (lineAt c (i + j)) (some s) ≡ 0
 unfolding inspected
-inspected-none ls i [] h j s r = absurd (none≢some r)
-inspected-none ls i (o ∷ ss) h j s r = go (eqb (stateFault (lineAt ls i noLine) o) 0) refl h j r (inspected-none ls (suc i) ss)
+inspected-none c i [] h j s r = absurd (none≢some r)
+inspected-none c i (o ∷ ss) h j s r = go (eqb (stateFault (lineAt c i) o) 0) refl h j r (inspected-none c (suc i) ss)
   where
-    go : (b : Bool) → eqb (stateFault (lineAt ls i noLine) o) 0 ≡ b → cond b (inspected ls (suc i) ss) (some (stateFault (lineAt ls i noLine) o, i)) ≡ none
+    go : (b : Bool) → eqb (stateFault (lineAt c i) o) 0 ≡ b → cond b (inspected c (suc i) ss) (some (stateFault (lineAt c i) o, i)) ≡ none
         → (j : ℕ) → getD (o ∷ ss) j none ≡ some s
-        → (inspected ls (suc i) ss ≡ none → (j : ℕ) (s : State) → getD ss j none ≡ some s → stateFault (lineAt ls (suc i + j) noLine) (some s) ≡ 0)
-        → stateFault (lineAt ls (i + j) noLine) (some s) ≡ 0
+        → (inspected c (suc i) ss ≡ none → (j : ℕ) (s : State) → getD ss j none ≡ some s → stateFault (lineAt c (suc i + j)) (some s) ≡ 0)
+        → stateFault (lineAt c (i + j)) (some s) ≡ 0
     go false e h j r below = absurd (none≢some (sym h))
     go true e h zero r below = rw (add-zero i, ← r) (eqb-true _ 0 e)
     go true e h (suc j) r below = rw (suc-out i j) (below h j s r)
 
 pub after-none : (c : Chunk) (st : List (Option State)) → afterChunk c st ≡ none → (i : ℕ) (s : State) → getD st i none ≡ some s
-    → stateFault (lineOf c i) (some s) ≡ 0
+    → stateFault (lineAt c i) (some s) ≡ 0
 unfolding afterChunk
-after-none c st h i s r = rw zero-add at (inspected-none (c .code) 0 st h i s r)
+after-none c st h i s r = rw zero-add at (inspected-none c 0 st h i s r)

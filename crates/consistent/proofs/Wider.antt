@@ -26,24 +26,24 @@ use Rattle.ops.specs.declared.Exit.{Exit}
 use Rattle.ops.specs.declared.Exit.the-variants.{Next, Stops, Jumps, Ifs, Breaks, Restarts}
 use Rattle.ops.specs.declared.Asks.{Asks}
 use Rattle.ops.specs.declared.Asks.the-variants.{First}
-use Rattle.ops.specs.declared.Acts.{Acts}
 use Rattle.ops.specs.declared.Acts.the-variants.{Still}
 use Rattle.join_laws.proofs.Masks.{or-le-r, none-of-or, mask-equals}
 use Rattle.join_laws.proofs.Flows.{predicate-equals}
 use Rattle.join_laws.proofs.Cells.{cell-joins, cell-mask}
 use Rattle.definition.specs.declared.Ask.the-variants.{First as AskFirst}
+use Rattle.definition.specs.declared.Want.{Want}
 use Rattle.definition.specs.Res.{ok}
 use Rattle.definition.specs.Machine.{Effect}
 use Rattle.definition.specs.Module.{Chunk}
 use Rattle.definition.specs.State.{State, Facts, Gift}
-use Rattle.definition.specs.Outputs.{Visit, arg, instr, noCell, setting}
-use Rattle.definition.specs.Wants.{require, wants, wantOf, atIndex, operandCheck, operandChecks, checksBy, checks, isProven, allProven, unpacked, unfit}
-use Rattle.definition.specs.Ways.{branch, waysOf, receiverOn, narrowing, along, narrowed, setLocals, kept, afterBy, after, leaving}
-use Rattle.definition.specs.Leaves.{Known, visitOf, leaves}
+use Rattle.definition.specs.Outputs.{Visit, arg, instr, shared, noCell, setting}
+use Rattle.definition.specs.Wants.{require, wants, isEntry, pairKinds, wantBy, declaredMask, wantOf, atIndex, operandCheck, operandChecks, checksBy, checks, isProven, allProven, unpacked, unfit}
+use Rattle.definition.specs.Ways.{branch, waysOf, receiverOn, narrowing, along, narrowed, setLocals, kept, isReset, after, leaving}
+use Rattle.definition.specs.Leaves.{Known, visitOf, leaves, lineAt}
 use Rattle.definition.specs.Report.{isTest}
 use Rattle.machine_laws.proofs.Bind.{none≢some}
 use Rattle.rule_laws.proofs.Tests.{test-rule}
-use Rattle.consistent.specs.Consistent.{lineOf, TakesAll, TakesIn}
+use Rattle.consistent.specs.Consistent.{TakesAll, TakesIn}
 use Rattle.consistent.proofs.Visits.{accepted, branch-in, leaving-in, in-leaving}
 
 -- ---- a proven operand is of some kind
@@ -65,14 +65,18 @@ unfolding allProven operandChecks operandCheck atIndex
 operand-some v m [] h = inl refl
 operand-some v m (c ∷ cs) h = inr (proven-some (c .mask) m (both (isProven (require (c .mask) m)) _ h .0))
 
-checked-first : (v : Visit) (m : Mask) (a : Asks) → a ≡ First m → allProven (checksBy v (wantOf v a) (wantOf v a .ask)) ≡ true
+want-first : (v : Visit) (m : Mask) → v .rule .asks ≡ First m → wantOf v ≡ wants AskFirst m NONE
+unfolding wantOf wantBy
+want-first v m e = ap (λ (a : Asks). wantBy a (v .rule .slots) (instr v) (shared v) (pairKinds v) (declaredMask v) (isEntry v)) e
+
+checked-first : (v : Visit) (m : Mask) → v .rule .asks ≡ First m → allProven (checks v) ≡ true
     → allProven (operandChecks v (wants AskFirst m NONE) 0 (v .args)) ≡ true
-unfolding checksBy wantOf
-checked-first v m a e h = rw e at h
+unfolding checks checksBy
+checked-first v m e h = ap (λ (w : Want). allProven (checksBy v w (w .ask))) (sym (want-first v m e)) ∙ h
 
 test-some : (v : Visit) (m : Mask) → v .rule .asks ≡ First m → unfit v ≡ 0 → (v .args ≡ []) ⊎ (Nothing (arg v 0 .mask) → ⊥)
-unfolding unfit checks
-test-some v m e h = operand-some v m (v .args) (checked-first v m (v .rule .asks) e (go (allProven (checks v)) (unpacked v (v .rule .makes)) h))
+unfolding unfit
+test-some v m e h = operand-some v m (v .args) (checked-first v m e (go (allProven (checks v)) (unpacked v (v .rule .makes)) h))
   where
     go : (a b : Bool) → _≡_ {A = ℕ} (cond a (cond b 15 0) 13) 0 → a ≡ true
     go true b h = refl
@@ -195,9 +199,9 @@ all-at xs ys t n = go (decLt n (length ys))
         rw (List·getD-eq-default ys noCell l, List·getD-eq-default xs noCell l′) (cell-joins .idem noCell)
 
 -- the local masks of a test's visit are its state's
-still-locals : (v : Visit) (a : Acts) → a ≡ Still → afterBy v a .locals ≡ v .locals
-unfolding afterBy kept setting setLocals
-still-locals v a e = rw e
+still-locals : (v : Visit) → v .rule .acts ≡ Still → after v .locals ≡ v .locals
+unfolding after isReset kept setting setLocals
+still-locals v e = rw e
 
 -- the operands on top of two stacks of one height
 top-takes : (xs ys : List Cell) (n : ℕ) → TakesAll xs ys
@@ -216,35 +220,35 @@ top-empty xs ys n e h =
 
 module _ (k : Known) (c : Chunk) (f : Facts) (i : ℕ) (s was : State) (t : TakesIn s was) where
   abbrev v : Visit
-  v = visitOf k c f (lineOf c i) s
+  v = visitOf k c f i s
 
   abbrev v₀ : Visit
-  v₀ = visitOf k c f (lineOf c i) was
+  v₀ = visitOf k c f i was
 
   operand : joinCell (arg v 0) (arg v₀ 0) ≡ arg v 0
   unfolding visitOf
-  operand = top-takes (s .stack) (was .stack) (lineOf c i .instr .taken) (t .stack)
+  operand = top-takes (s .stack) (was .stack) (lineAt c i .instr .taken) (t .stack)
 
   condition : isTest (v₀ .rule .exit) ≡ true → unfit v₀ ≡ 0 → Known′ (arg v 0 .mask) (arg v₀ 0 .mask)
   unfolding visitOf
   condition u h =
-      let a = test-rule (lineOf c i .instr .op) u .asks in
+      let a = test-rule (lineAt c i .instr .op) u .asks in
       elim (test-some v₀ (a .0) (a .1) h) [
-        | inl e ↦ inl (rw (e, top-empty (s .stack) (was .stack) (lineOf c i .instr .taken) (t .stack .long) e))
+        | inl e ↦ inl (rw (e, top-empty (s .stack) (was .stack) (lineAt c i .instr .taken) (t .stack .long) e))
         | inr n ↦ inr n
       ]
 
   enums : isTest (v₀ .rule .exit) ≡ true → Enums (after v) (after v₀)
-  unfolding visitOf after
+  unfolding visitOf
   enums u r h =
-      let e = test-rule (lineOf c i .instr .op) u .acts in
-      let l : after v .locals ≡ s .locals = still-locals v _ e in
-      let l₀ : after v₀ .locals ≡ was .locals = still-locals v₀ _ e in
+      let e = test-rule (lineAt c i .instr .op) u .acts in
+      let l : after v .locals ≡ s .locals = still-locals v e in
+      let l₀ : after v₀ .locals ≡ was .locals = still-locals v₀ e in
       rw l (has-up _ _ ENUM (cell-mask _ _ (all-at (s .locals) (was .locals) (t .locals) r)) (rw l₀ at h))
 
   -- what leaves the smaller state goes a way of the wider one
   pub wider : (e : Effect State Gift) → leaves k true c f i was ≡ ok e → (to : ℕ) (x : State) → List·Memᴰ {A = ℕ × State} (to, x) (e .ways)
-      → (y : State) × List·Memᴰ {A = ℕ × State} (to, y) (leaving (visitOf k c f (lineOf c i) s) i)
+      → (y : State) × List·Memᴰ {A = ℕ × State} (to, y) (leaving (visitOf k c f i s))
   unfolding leaving visitOf joinCell joinFlow
   wider e h to x m =
       let a = accepted k true c f i was e h in

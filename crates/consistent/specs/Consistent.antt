@@ -13,13 +13,14 @@ use Rattle.flows.specs.Flow.{joinFlow, noFlow}
 use Rattle.cells.specs.declared.Cell.{Cell}
 use Rattle.cells.specs.Cell.{joinCell}
 use Rattle.ops.specs.Ops.{ruleOf}
+use Rattle.join_laws.specs.Join.{Takes}
 use Rattle.definition.specs.Module.{Module, Chunk, Line, row}
 use Rattle.definition.specs.State.{State, Facts, Gift, nothing, arguments, returned, written}
 use Rattle.definition.specs.Data.{isBody}
 use Rattle.definition.specs.Outputs.{Visit, noCell}
 use Rattle.definition.specs.Wants.{unfit}
 use Rattle.definition.specs.Ways.{after, leaving}
-use Rattle.definition.specs.Leaves.{always, visitOf, lineAt, noLine, gives, storedFlow}
+use Rattle.definition.specs.Leaves.{always, visitOf, lineAt, gives, storedFlow}
 use Rattle.definition.specs.Start.{stateFault, initMask, firstFacts, knownOf, filled, last}
 use Rattle.definition.specs.Report.{Report, Record, Inspection, Branch, saysFalse, isTest}
 
@@ -47,29 +48,26 @@ pub record Recorded (r : Report) (c i : ℕ) (s : State) : Type 0 where
 
 -- ---- takes in
 -- a cell takes in another when joining that one changes nothing
-abbrev pub Takes : Cell → Cell → Type 0
-Takes x y = joinCell x y ≡ x
+abbrev pub TakesCell : Cell → Cell → Type 0
+TakesCell x y = Takes joinCell x y
 
 -- the one row takes in the other, cell by cell
 pub record TakesAll (xs ys : List Cell) : Type 0 where
   pub long : length xs ≡ length ys
-  pub each : (i : ℕ) → i < length ys → Takes (getD xs i noCell) (getD ys i noCell)
+  pub each : (i : ℕ) → i < length ys → TakesCell (getD xs i noCell) (getD ys i noCell)
 
 -- the heights agree, and each stack cell and local takes in its counterpart
 pub record TakesIn (s x : State) : Type 0 where
   pub stack : TakesAll (s .stack) (x .stack)
   pub locals : TakesAll (s .locals) (x .locals)
 
-abbrev pub lineOf : Chunk → ℕ → Line
-lineOf c i = lineAt (c .code) i noLine
-
 -- ---- the visit of a record: the description, the record's stack and locals, and the cells of tags 17 and 18
 unfoldable pub visitAt : Module → Report → Chunk → ℕ → State → Visit
-visitAt m r c i s = visitOf (knownOf m (firstFacts m)) c (factsOf r) (lineOf c i) s
+visitAt m r c i s = visitOf (knownOf m (firstFacts m)) c (factsOf r) i s
 
 -- along this way this leaves the instruction i, whose record has this state
 abbrev pub Leaves : Module → Report → Chunk → ℕ → State → ℕ → State → Type 0
-Leaves m r c i s to x = List·Memᴰ {A = ℕ × State} (to, x) (leaving (visitAt m r c i s) i)
+Leaves m r c i s to x = List·Memᴰ {A = ℕ × State} (to, x) (leaving (visitAt m r c i s))
 
 -- reached from the first instruction by a chain of passes between recorded instructions
 pub data Reached (m : Module) (r : Report) (c : Chunk) : ℕ → Type 0 where
@@ -90,8 +88,8 @@ unfoldable pub GivenIn : Module → Facts → Gift → Type 0
 GivenIn m f nothing = Unit {0}
 GivenIn m f (arguments n cs) =
     (length cs ≤ length (getD (f .inputs) n []))
-    × ((i : ℕ) → i < length cs → Takes (getD (getD (f .inputs) n []) i noCell) (getD cs i noCell))
-GivenIn m f (returned n c) = (n < length (f .results)) × Takes (getD (f .results) n noCell) c
+    × ((i : ℕ) → i < length cs → TakesCell (getD (getD (f .inputs) n []) i noCell) (getD cs i noCell))
+GivenIn m f (returned n c) = (n < length (f .results)) × TakesCell (getD (f .results) n noCell) c
 GivenIn m f (written ns c) = (n : ℕ) → List·Memᴰ n ns → (n < length (f .masks)) × WrittenIn m f n c
 
 -- the facts printed are as many as the declared ones and take them in: inputs, results, and the masks of the initializers
@@ -106,17 +104,17 @@ pub record DeclaredIn (m : Module) (f : Facts) : Type 0 where
 -- a test whose condition is exactly one Bool
 abbrev pub KnownBranch : Module → Report → Branch → Type 0
 KnownBranch m r b = (c : Chunk) × (s : State) × List·Memᴰ c (m .chunks) × (c .number ≡ b .chunk)
-    × Recorded r (b .chunk) (b .instruction) s × (isTest (ruleOf (lineOf c (b .instruction) .instr .op) .exit) ≡ true)
+    × Recorded r (b .chunk) (b .instruction) s × (isTest (ruleOf (lineAt c (b .instruction) .instr .op) .exit) ≡ true)
     × (((b .value ≡ 0) × (last (s .stack) .mask ≡ FALSE)) ⊎ ((b .value ≡ 1) × (last (s .stack) .mask ≡ TRUE)))
 
 -- an inspection for a kind that its operand can't be
 abbrev pub FalseInspection : Module → Report → Inspection → Type 0
 FalseInspection m r x = (c : Chunk) × (s : State) × List·Memᴰ c (m .chunks) × (c .number ≡ x .chunk)
-    × Recorded r (x .chunk) (x .instruction) s × (saysFalse (ruleOf (lineOf c (x .instruction) .instr .op) .others) (last (s .stack)) ≡ true)
+    × Recorded r (x .chunk) (x .instruction) s × (saysFalse (ruleOf (lineAt c (x .instruction) .instr .op) .others) (last (s .stack)) ≡ true)
 
 -- ---- what validation asks of a visit in this state
 pub record Fine (v : Visit) (s : State) : Type 0 where
-  pub fits : always v (length (s .stack)) ≡ 0
+  pub fits : always v ≡ 0
   pub proven : unfit v ≡ 0
   pub height : length (after v .stack) ≤ v .chunk .stack
   pub inspected : stateFault (v .line) (some s) ≡ 0

@@ -1,1 +1,1 @@
-// Demand 3, stated and proved of the definition: see specs/.
+// No code. Demand 3: stated in specs/Consistent.antt, proved of the definition in proofs/.

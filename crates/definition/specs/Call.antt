@@ -1,4 +1,10 @@
 -- The whole call: answer, report buffer and workspace, for every description, workspace, buffer and limit.
+-- Of types.rs: `check` (lines 416 to 555) in its order: 9 and 10 by chunk, 11, 12, rounds, validation (`decided`). Of document 01: "Turned
+-- back, by whose doing" (numbers, places, order), and what is left in the report buffer and the workspace.
+-- Where it differs: it is given bytes (1 to 4, Form.antt), lent words (5, and 8 by the room beyond W), a limit (7) and a report buffer (6);
+-- types.rs has none of these. Readings of docs/DECISIONS.md: B9 no reachable chunk, C4 what a refusal leaves, D1 heights, D2 panics.
+-- Nothing is left open: there is one outcome for each choice of arguments. Nothing here recurs; the run ends, since `run` counts the limit
+-- down.
 use Prim.Native.Nat.{ℕ, _-_}
 use mathlib.Core.Bool.{cond}
 use mathlib.Core.Option.{Option, none, some}
@@ -8,14 +14,15 @@ use lib.ListN.{length, drop, replicate}
 use Rattle.answers.specs.declared.Refusal.{Refusal}
 use Rattle.answers.specs.declared.Answer.{Answer}
 use Rattle.answers.specs.declared.Answer.the-variants.{Accepted, Refused}
+use Rattle.answers.specs.Answers.{nowhere, refusal}
 use Rattle.definition.specs.declared.Form.{Form}
 use Rattle.definition.specs.declared.Form.the-variants.{Fine}
 use Rattle.definition.specs.declared.Form.the-variants.{Refused as Malformed}
-use Rattle.definition.specs.Machine.{Ran, accepted, refused, check, refusal}
+use Rattle.definition.specs.Machine.{Ran, accepted, refused, check}
 use Rattle.definition.specs.Module.{Module, moduleOf}
 use Rattle.definition.specs.State.{State, Facts, join}
 use Rattle.definition.specs.Leaves.{Known, leaves, absorb, opened, closed, moved}
-use Rattle.definition.specs.Form.{formOf, nowhere}
+use Rattle.definition.specs.Form.{formOf}
 use Rattle.definition.specs.Start.{admitted, firstFacts, overfull, replyMaximum, knownOf, start, afterChunk}
 use Rattle.definition.specs.Report.{Report, reportOf, reportBytes}
 

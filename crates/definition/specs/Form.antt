@@ -1,4 +1,11 @@
 -- The form of a description: refusals 1 to 4, in byte order, the lowest number of a field; then the two late looks; and W.
+-- Of document 01: "Description" (fields, largest values, taken and given), "Exporter" in "Turned back", W in "Steps and passes". Of
+-- types.rs: nothing, it is given a module; 3 and 4 turn away what it would panic on, and more (D2, docs/DIFFERENCES.md), and 4 is the most
+-- that may be given (D10). Where document 01 leaves a choice: readings A1 to A28 of docs/DECISIONS.md.
+-- It is said as a walk, because the first fault in byte order counts; the code has the same `Scan`. What a description that passes has, and
+-- that W is document 01's sum, is a theorem: `good-form` (form_laws). Left open: bytes that no rule reads (D12) may have any value.
+-- How it ends: `fieldsFrom` (description/specs/Fields.antt) is the list of the fields, no longer than the description; the walks go along
+-- it, the others count down.
 use Prim.Native.Nat.{ℕ, zero, suc, _+_, _*_, _-_}
 use mathlib.Core.Bool.{Bool, true, false, not, cond, _&&_, _||_}
 use mathlib.Core.List.{List, [], _∷_}
@@ -6,21 +13,20 @@ use lib.Dec.{eqb, ltb, leb}
 use lib.ListN.{length, getD}
 use Rattle.le.specs.Le.{at8}
 use Rattle.answers.specs.declared.Refusal.{Refusal}
+use Rattle.answers.specs.Answers.{nowhere, inField, refusal}
 use Rattle.widths.specs.declared.Shape.{Shape}
 use Rattle.description.specs.declared.Header.{Header}
 use Rattle.description.specs.declared.ChunkHead.{ChunkHead}
 use Rattle.description.specs.declared.Instr.{Instr}
 use Rattle.description.specs.Fields.{tagAt, lenAt, nextAt, fieldsFrom, ofTag, shapeOf, headerOf, chunkOf, tagsAt, paramsAt, paramsOf, instrOf, hasSite}
 use Rattle.definition.specs.declared.Scan.{Scan}
-use Rattle.definition.specs.declared.Step.{Step}
-use Rattle.definition.specs.declared.Step.the-variants.{Go, Stop}
+use Rattle.definition.specs.declared.ScanStep.{ScanStep}
+use Rattle.definition.specs.declared.ScanStep.the-variants.{Go, Stop}
 use Rattle.definition.specs.declared.Form.{Form}
 use Rattle.definition.specs.declared.Form.the-variants.{Fine, Refused}
 use Rattle.definition.specs.Module.{signedParams}
-
--- a refusal that names neither chunk nor instruction
-abbrev pub nowhere : ℕ → ℕ → Refusal
-nowhere n steps = record { number = n; chunk = 65535; instruction = 65535; steps = steps }
+use Rattle.definition.specs.Bounds.{mostBytes, mostFloat, mostChunks, mostSlots, mostLocals, mostStack, mostArity, mostTags, mostParams, mostInstrs, mostTaken, mostGiven, mostScalarKind, mostCompositeKind, mostOperand, mostImmediate, mostNatives, mostFields}
+use Rattle.ops.specs.Numbers.{opCall, opYield}
 
 -- the lowest number whose fault is there, or 0
 abbrev pub lowest : Bool → Bool → Bool → Bool → ℕ
@@ -150,7 +156,7 @@ unfoldable pub headerFault : Bool → ℕ → Header → ℕ
 headerFault due len h =
     lowest
     (not due || not (eqb len 15) || ltb 1 (h .layout) || ltb 1 (h .owns) || (eqb (h .layout) 0 && not (eqb (h .slots) 0)))
-    (ltb 31 (h .float) || ltb 64 (h .chunks) || ltb (h .chunks) (h .signatures) || ltb 1024 (h .slots))
+    (ltb mostFloat (h .float) || ltb mostChunks (h .chunks) || ltb (h .chunks) (h .signatures) || ltb mostSlots (h .slots))
     (leb (h .signatures) (h .entry))
     false
 
@@ -177,7 +183,7 @@ unfoldable pub chunkFault : List ℕ → ℕ → Bool → ℕ → Bool → Chunk
 chunkFault s p due len signed h =
     lowest
     (not due || not (eqb (chunkLen s p signed (h .tags)) len && tagsFine s (tagsAt p) (h .tags) && signatureFine s p signed) || ltb 1 (h .reachable) || ltb 2 (h .block))
-    (ltb 256 (h .locals) || ltb 64 (h .stack) || ltb 16 (h .arity) || ltb 16 (h .tags) || ltb 16 (signedParams s p signed))
+    (ltb mostLocals (h .locals) || ltb mostStack (h .stack) || ltb mostArity (h .arity) || ltb mostTags (h .tags) || ltb mostParams (signedParams s p signed))
     (ltb (h .locals) (signedParams s p signed))
     false
 
@@ -194,10 +200,10 @@ senseless m i =
 -- an operand over its largest value
 unfoldable pub tooLarge : ℕ → Instr → Bool
 tooLarge m i =
-    ((eqb m local || eqb m target || eqb m callee || eqb m native) && ltb 65535 (i .a))
-    || (eqb m immediate && ltb 255 (i .a))
-    || (eqb m composite && (ltb 3 (i .b) || ltb 65535 (i .c)))
-    || (eqb m part && ((eqb (i .a) 0 && ltb 255 (i .b)) || (eqb (i .a) 1 && (ltb 3 (i .b) || ltb 65535 (i .c)))))
+    ((eqb m local || eqb m target || eqb m callee || eqb m native) && ltb mostOperand (i .a))
+    || (eqb m immediate && ltb mostImmediate (i .a))
+    || (eqb m composite && (ltb mostCompositeKind (i .b) || ltb mostOperand (i .c)))
+    || (eqb m part && ((eqb (i .a) 0 && ltb mostScalarKind (i .b)) || (eqb (i .a) 1 && (ltb mostCompositeKind (i .b) || ltb mostOperand (i .c)))))
 
 -- a local not below L, a callee without signature, an indexed access of 0 slots without layout
 unfoldable pub misplaced : ℕ → Instr → Scan → Bool
@@ -214,7 +220,7 @@ unfoldable pub instrFault : Bool → ℕ → Instr → Scan → ℕ
 instrFault due len i t =
     lowest
     (not due || not (eqb len 15) || ltb 65 (i .op) || senseless (fitOf (i .op) .meaning) i)
-    (ltb 4095 (t .instrs) || ltb 64 (i .taken) || ltb 4 (i .given) || tooLarge (fitOf (i .op) .meaning) i)
+    (leb mostInstrs (t .instrs) || ltb mostTaken (i .taken) || ltb mostGiven (i .given) || tooLarge (fitOf (i .op) .meaning) i)
     (misplaced (fitOf (i .op) .meaning) i t)
     (unfitting (fitOf (i .op)) i)
 
@@ -226,18 +232,14 @@ siteFault s p due len =
 unfoldable pub tableFault : List ℕ → ℕ → ℕ → Bool → ℕ → ℕ → ℕ
 tableFault s p tag due len count =
     cond (eqb tag 5)
-    (lowest (not due || not (eqb len 8) || not (shapeFine (shapeOf s (p + 3))) || ltb 1 (at8 s (p + 10))) (ltb 255 count) false false)
-    (cond (eqb tag 6) (lowest (not due || not (eqb len 1)) (ltb 1023 count) false false)
-    (cond (eqb tag 7) (lowest (not due || not (eqb len 6)) (ltb 1023 count) false false)
-    (lowest (not due || not (eqb len 2) || ltb 11 (at8 s (p + 3)) || ltb 1 (at8 s (p + 4))) (ltb 1023 count) false false)))
+    (lowest (not due || not (eqb len 8) || not (shapeFine (shapeOf s (p + 3))) || ltb 1 (at8 s (p + 10))) (leb mostNatives count) false false)
+    (cond (eqb tag 6) (lowest (not due || not (eqb len 1)) (leb mostFields count) false false)
+    (cond (eqb tag 7) (lowest (not due || not (eqb len 6)) (leb mostFields count) false false)
+    (lowest (not due || not (eqb len 2) || ltb 11 (at8 s (p + 3)) || ltb 1 (at8 s (p + 4))) (leb mostFields count) false false)))
 
 -- ---- the walk
-abbrev pub orStop : ℕ → Refusal → Scan → Step
+abbrev pub orStop : ℕ → Refusal → Scan → ScanStep
 orStop n r t = cond (eqb n 0) (Go t) (Stop r)
-
--- 1 and 2 name nothing, 3 and 4 what the field is part of
-unfoldable pub inField : ℕ → ℕ → ℕ → Refusal
-inField n c i = cond (ltb n 3) (nowhere n 0) (record { number = n; chunk = c; instruction = i; steps = 0 })
 
 -- past a field, the scan: its tag, and what it counts
 abbrev pub pastHeader : Header → Scan
@@ -255,7 +257,7 @@ pastHeader h =
       cells = 4 + h .slots;
     }
 
-unfoldable pub headerStep : List ℕ → ℕ → Scan → Step
+unfoldable pub headerStep : List ℕ → ℕ → Scan → ScanStep
 headerStep s p t =
     let h = headerOf s p in
     let n = headerFault (eqb (t .place) 0) (lenAt s p) h in
@@ -276,7 +278,7 @@ pastChunk h params t =
       cells = t .cells + params + 2;
     }
 
-unfoldable pub chunkStep : List ℕ → ℕ → Scan → Step
+unfoldable pub chunkStep : List ℕ → ℕ → Scan → ScanStep
 chunkStep s p t =
     let h = chunkOf s p in
     let signed = ltb (t .seen) (t .signatures) in
@@ -298,7 +300,7 @@ pastInstr t =
       cells = t .cells + t .locals + t .stack + 6;
     }
 
-unfoldable pub instrStep : List ℕ → ℕ → Scan → Step
+unfoldable pub instrStep : List ℕ → ℕ → Scan → ScanStep
 instrStep s p t =
     let n = instrFault (ltb 1 (t .place) && ltb (t .place) 5) (lenAt s p) (instrOf s p) t in
     orStop n (inField n (t .seen - 1) (t .instrs)) (pastInstr t)
@@ -318,7 +320,7 @@ placed tag count t =
       cells = t .cells;
     }
 
-unfoldable pub siteStep : List ℕ → ℕ → Scan → Step
+unfoldable pub siteStep : List ℕ → ℕ → Scan → ScanStep
 siteStep s p t =
     let n = siteFault s p (eqb (t .place) 3) (lenAt s p) in
     orStop n (nowhere n 0) (placed 4 (t .count) t)
@@ -327,13 +329,13 @@ siteStep s p t =
 unfoldable pub soFar : Scan → ℕ → ℕ
 soFar t tag = cond (eqb (t .place) tag) (t .count) 0
 
-unfoldable pub tableStep : List ℕ → ℕ → ℕ → Scan → Step
+unfoldable pub tableStep : List ℕ → ℕ → ℕ → Scan → ScanStep
 tableStep s p tag t =
     let n = tableFault s p tag (ltb 0 (t .place) && leb (t .place) tag && (eqb tag 5 || eqb (t .layout) 1)) (lenAt s p) (soFar t tag) in
     orStop n (nowhere n 0) (placed tag (soFar t tag + 1) t)
 
 -- a field that doesn't fit the description is 1, its contents are not looked at
-unfoldable pub fieldStep : List ℕ → ℕ → Scan → Step
+unfoldable pub fieldStep : List ℕ → ℕ → Scan → ScanStep
 fieldStep s p t =
     cond (ltb (length s) (nextAt s p)) (Stop (nowhere 1 0))
     (cond (eqb (tagAt s p) 1) (headerStep s p t)
@@ -352,8 +354,8 @@ parameters s left (p ∷ ps) = signedParams s p (ltb 0 left) ∷ parameters s (l
 -- a call taking more than its callee's parameters, a `Yield` without site
 unfoldable pub lateFault : List ℕ → List ℕ → ℕ → Bool
 lateFault s params p =
-    (eqb (instrOf s p .op) 30 && ltb (getD params (instrOf s p .a) 0) (instrOf s p .taken))
-    || (eqb (instrOf s p .op) 32 && not (hasSite s p))
+    (eqb (instrOf s p .op) opCall && ltb (getD params (instrOf s p .a) 0) (instrOf s p .taken))
+    || (eqb (instrOf s p .op) opYield && not (hasSite s p))
 
 -- the chunks and the instructions of the chunk so far
 unfoldable pub lateLook : List ℕ → List ℕ → ℕ → ℕ → List ℕ → Refusal
@@ -361,7 +363,7 @@ lateLook s params c i [] = nowhere 0 0
 lateLook s params c i (p ∷ ps) =
     cond (eqb (tagAt s p) 2) (lateLook s params (c + 1) 0 ps)
     (cond (eqb (tagAt s p) 3)
-    (cond (lateFault s params p) (record { number = 3; chunk = c - 1; instruction = i; steps = 0 }) (lateLook s params c (i + 1) ps))
+    (cond (lateFault s params p) (refusal 3 (c - 1) i 0) (lateLook s params c (i + 1) ps))
     (lateLook s params c i ps))
 
 -- ---- the whole
@@ -374,7 +376,7 @@ finished s t =
     cond (eqb (t .place) 0 || ltb (t .seen) (t .chunks)) (Refused (nowhere 1 0))
     (afterLook (lateLook s (parameters s (t .signatures) (ofTag 2 s (fieldsFrom s 0))) 0 0 (fieldsFrom s 0)) (16 * t .cells))
 
-unfoldable pub onStep : Step → (Scan → Form) → Form
+unfoldable pub onStep : ScanStep → (Scan → Form) → Form
 onStep (Go t) k = k t
 onStep (Stop r) k = Refused r
 
@@ -388,4 +390,4 @@ unscanned =
 
 -- W of a description of good form, or the refusal; its length is looked at first
 unfoldable pub formOf : List ℕ → Form
-formOf s = cond (ltb 1048576 (length s)) (Refused (nowhere 2 0)) (scanFrom s (fieldsFrom s 0) unscanned)
+formOf s = cond (ltb mostBytes (length s)) (Refused (nowhere 2 0)) (scanFrom s (fieldsFrom s 0) unscanned)

@@ -1,4 +1,12 @@
 -- One visit: its refusals, the ways that leave it, and what it gives to the facts; and the facts that take it in.
+-- Of types.rs: one turn of `analyze`'s loop (lines 596 to 1280) as a whole; its parts are in Outputs, Wants, Ways and Data. Here: what it
+-- refuses in both modes (629, 711, 944, 1002; by `dataFault` 832 to 867), what it joins into inputs, results and private slots (690 to 698,
+-- 714 to 720, 880 to 910), a round's facts (540 to 552). Of document 01: "In one instruction: underflow (13), its rule, 15, height"; what
+-- calls, returns and writes give.
+-- Where it differs: types.rs has a flag, `validate`, in many places; here validation only adds a refusal, and the machine drops what is
+-- given. Readings: B2 the height is held against D at every instruction, D1 types.rs has no D, D3 requirements are tested at every taking,
+-- D4 facts keep what an early round gave.
+-- Nothing is left open. Recursion goes along lists (the slots of a write, masks).
 use Prim.Native.Nat.{ℕ, zero, suc, _-_}
 use mathlib.Core.Bool.{Bool, true, false, not, cond, _&&_, _||_}
 use mathlib.Core.Option.{none}
@@ -40,8 +48,17 @@ pub record Known : Type 0 where
 abbrev pub streams : Module → Chunk → Bool
 streams m c = eqb (c .number) (m .entry) && (eqb (c .block) 2 && ltb 0 (c .arity))
 
-unfoldable pub visitOf : Known → Chunk → Facts → Line → State → Visit
-visitOf k c f x s =
+-- the instruction i of a chunk
+abbrev pub noLine : Line
+noLine = record { instr = record { op = 0; taken = 0; given = 0; a = 0; b = 0; c = 0 }; site = none }
+
+unfoldable pub lineAt : Chunk → ℕ → Line
+lineAt c i = getD (c .code) i noLine
+
+-- the visit of the instruction i in this state
+unfoldable pub visitOf : Known → Chunk → Facts → ℕ → State → Visit
+visitOf k c f i s =
+    let x = lineAt c i in
     record {
       code = k .code;
       chunk = c;
@@ -49,41 +66,46 @@ visitOf k c f x s =
       suspends = k .suspends;
       reply = k .reply;
       facts = f;
+      at = i;
       line = x;
       rule = ruleOf (x .instr .op);
+      height = length (s .stack);
       args = drop (length (s .stack) - x .instr .taken) (s .stack);
       below = take (length (s .stack) - x .instr .taken) (s .stack);
       locals = s .locals;
     }
 
--- refused in the rounds and in validation alike: a boxed field, and what has no rule
-unfoldable pub hopeless : Visit → Asks → Bool
-hopeless v (PartOf k) = ltb 1 (instr v .a)
-hopeless v Never = true
-hopeless v Free = false
-hopeless v (First m) = false
-hopeless v (Both m n) = false
-hopeless v Yielded = false
-hopeless v Returned = false
-hopeless v (Every m) = false
-hopeless v Ordered = false
-hopeless v (Same k) = false
-hopeless v Stored = false
+-- refused in the rounds and in validation alike: a boxed field (a is the form of the access), and what has no rule
+unfoldable pub hopeless : Asks → ℕ → Bool
+hopeless (PartOf k) a = ltb 1 a
+hopeless Never a = true
+hopeless Free a = false
+hopeless (First m) a = false
+hopeless (Both m n) a = false
+hopeless Yielded a = false
+hopeless Returned a = false
+hopeless (Every m) a = false
+hopeless Ordered a = false
+hopeless (Same k) a = false
+hopeless Stored a = false
+
+unfoldable pub isReturn : Acts → Bool
+isReturn Returns = true
+isReturn Still = false
+isReturn SetsLocal = false
+isReturn Yields = false
+isReturn Calls = false
+isReturn Resets = false
+isReturn Stores = false
 
 -- a `Return` with no value
-unfoldable pub nothingBelow : Visit → Acts → Bool
-nothingBelow v Returns = eqb (length (v .below)) 0
-nothingBelow v Still = false
-nothingBelow v SetsLocal = false
-nothingBelow v Yields = false
-nothingBelow v Calls = false
-nothingBelow v Resets = false
-nothingBelow v Stores = false
+abbrev pub nothingBelow : Visit → Bool
+nothingBelow v = isReturn (v .rule .acts) && eqb (length (v .below)) 0
 
 -- 13 or 14 whatever the mode, or 0
-unfoldable pub always : Visit → ℕ → ℕ
-always v height =
-    cond (ltb height (instr v .taken) || (hopeless v (v .rule .asks) || nothingBelow v (v .rule .acts))) 13
+unfoldable pub always : Visit → ℕ
+always v =
+    cond (ltb (v .height) (instr v .taken) || (hopeless (v .rule .asks) (instr v .a) || nothingBelow v)) 13
     (dataFault (v .code) (instr v) (v .rule .slots))
 
 -- what a visit gives to the facts; the entry's result is not widened
@@ -107,24 +129,17 @@ unless (suc n) r = bad (suc n)
 abbrev pub heightFault : Visit → ℕ
 heightFault v = cond (ltb (v .chunk .stack) (length (after v .stack))) 18 0
 
-unfoldable pub visited : Bool → Visit → ℕ → ℕ → Res (Effect State Gift)
-visited validating v height i =
-    unless (always v height)
+unfoldable pub visited : Bool → Visit → Res (Effect State Gift)
+visited validating v =
+    unless (always v)
     (unless (cond validating (unfit v) 0)
     (unless (heightFault v)
-    (ok (record { ways = leaving v i; gives = gives v }))))
-
--- the instruction that is not there
-unfoldable pub lineAt : List Line → ℕ → Line → Line
-lineAt ls i d = getD ls i d
-
-abbrev pub noLine : Line
-noLine = record { instr = record { op = 0; taken = 0; given = 0; a = 0; b = 0; c = 0 }; site = none }
+    (ok (record { ways = leaving v; gives = gives v }))))
 
 -- `analyze`'s step at the instruction i of a chunk, in this state
 unfoldable pub leaves : Known → Bool → Chunk → Facts → ℕ → State → Res (Effect State Gift)
 leaves k validating c f i s =
-    visited validating (visitOf k c f (lineAt (c .code) i noLine) s) (length (s .stack)) i
+    visited validating (visitOf k c f i s)
 
 -- ---- the facts take in what is given
 unfoldable pub joinAt : {A : Type 0} → (A → A → A) → A → List A → ℕ → A → List A

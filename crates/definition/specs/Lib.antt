@@ -8,6 +8,7 @@ pub mod Wants
 pub mod Ways
 pub mod Leaves
 pub mod Start
+pub mod Bounds
 pub mod Form
 pub mod Report
 pub mod Call

@@ -1,4 +1,11 @@
 -- The worklist as a flat machine, over any state, facts, join and rule: one taking after another, through rounds and validation.
+-- Of types.rs: the loops without the rules: rounds (lines 540 to 553), chunks (569 to 595), the queue (596, 1256 to 1279); what follows a
+-- chunk's validation (1281 to 1329) is the argument `after`. Of document 01: "Steps and passes", but not which passes there are; 7 and 8
+-- with their places.
+-- Where it differs: the three loops are one, so that steps, limit and queue have one place each; 7 and 8 are not in types.rs. Readings: B1
+-- the queue, B3 steps, B4 7 against 16 and 17, D11 validation goes through everything once more and adds nothing to the facts.
+-- How it ends: `run` counts the takings that are left; `enter` goes along the chunks, `puts` along the ways. Left open: state, facts, join
+-- and rule (`runOf` in Call.antt has them), and whether some limit is enough for a description: no theorem says so.
 use Prim.Native.Nat.{ℕ, zero, suc}
 use mathlib.Core.Bool.{Bool, true, false, cond, not}
 use mathlib.Core.Option.{Option, none, some}
@@ -6,6 +13,7 @@ use mathlib.Core.List.{List, [], _∷_, _++_}
 use lib.ListN.{length, getD, set}
 use lib.Dec.{ltb}
 use Rattle.answers.specs.declared.Refusal.{Refusal}
+use Rattle.answers.specs.Answers.{refusal}
 use Rattle.definition.specs.Res.{Res, ok, bad, bind}
 
 pub record Joined (S : Type 0) : Type 0 where
@@ -99,16 +107,13 @@ pub data Ran (R S : Type 0) : Type 0 where
 abbrev pub halt : {C F R S : Type 0} → ℕ → ℕ → ℕ → Where C F R S
 halt n c i = stop (record { number = n; chunk = c; instruction = i })
 
-abbrev pub refusal : ℕ → ℕ → ℕ → ℕ → Refusal
-refusal n c i steps = record { number = n; chunk = c; instruction = i; steps = steps }
-
 module _ {C F R S G : Type 0}
     -- a state with what comes, refused where the heights differ; the queue's room; the chunks, and which are reachable
     (join : S → S → Res (Joined S)) (cap : ℕ) (chunks : List C) (reachable : C → Bool)
     -- the states that a chunk begins with; what follows its validation: a refusal with its place
     (start : C → R → List (Option S)) (after : C → List (Option S) → Option (ℕ × ℕ))
     -- a round's facts: begun, read, added to, whether they moved, and closed
-    (open′ : R → F) (view : F → R) (absorb : F → G → F) (loud : F → Bool) (close : F → R)
+    (open′ : R → F) (view : F → R) (absorb : F → G → F) (moved : F → Bool) (close : F → R)
     -- the rule; the first argument says whether it validates
     (leaves : Bool → C → R → ℕ → S → Res (Effect S G)) where
   -- only the rounds add to the facts
@@ -129,7 +134,7 @@ module _ {C F R S G : Type 0}
 
   -- the end of a round: another where the facts moved, else validation
   unfoldable pub endRound : F → List (List (Option S)) → Where C F R S
-  endRound f past = enter (not (loud f)) finish 0 (open′ (close f)) [] chunks
+  endRound f past = enter (not (moved f)) finish 0 (open′ (close f)) [] chunks
 
   unfoldable pub ending : Bool → F → List (List (Option S)) → Where C F R S
   ending true f past = finish f past

@@ -1,4 +1,12 @@
 -- What an instruction makes of its operands: the outputs, and the local that it sets. The same in the rounds and in validation.
+-- Of types.rs: what `out`, `widths` and `flows` become in `analyze` (lines 634, 662 to 1219), together, since a cell is all three; of the
+-- closures `same` and `numeric` (637 to 661) the mask that they answer. Reads of slots are in Data.antt, packing is in
+-- packing/specs/Packing.antt; which instruction has which case is the table of ops/specs/Ops.antt. Of document 01: "what the instruction's
+-- rule makes"; the outputs of tag 19.
+-- Readings, all of them what types.rs does: D4 `same` gives the first operand's kinds where no one kind is common, D6 reads of 0 slots, D9
+-- Snapshot. Left out: the pool arithmetic of `data_width`, which no outcome shows (D12). An origin past 65534 is none, since 65535 says
+-- none in a report.
+-- Nothing is left open. Recursion goes along lists (operands, natives).
 use Prim.Native.Nat.{ℕ, zero, suc, _-_, _%_}
 use mathlib.Core.Bool.{Bool, true, false, cond, _&&_}
 use mathlib.Core.Option.{Option, none, some}
@@ -36,7 +44,7 @@ use Rattle.definition.specs.Module.{Native as NativeReturn}
 use Rattle.definition.specs.State.{Facts}
 use Rattle.definition.specs.Data.{fresh, readSlots, slotsFrom}
 
--- a visit: the instruction with its operands taken off, what is left below them, and the locals
+-- a visit: the instruction `at` with its operands taken off, what is left below them, and the locals; the height is that on arrival
 pub record Visit : Type 0 where
   pub code : Module
   pub chunk : Chunk
@@ -45,8 +53,10 @@ pub record Visit : Type 0 where
   pub suspends : List Bool
   pub reply : Cell
   pub facts : Facts
+  pub at : ℕ
   pub line : Line
   pub rule : Rule
+  pub height : ℕ
   pub args : List Cell
   pub below : List Cell
   pub locals : List Cell
@@ -177,29 +187,33 @@ predicateOn k (Local l) = cond (same k ENUM) (Tests l true) Untested
 unfoldable pub tested : Mask → Cell → ℕ → Cell
 tested k c float = withPredicate (made (inspection (c .mask) k) float) (predicateOn k (c .flow .origin))
 
--- the outputs after the first, from the first
-unfoldable pub secondOutput : Visit → Others → Cell → Cell
-secondOutput v Unknowns first = value v UNKNOWN
-secondOutput v Words first = value v WORD
-secondOutput v Checked first = value v (first .mask)
-secondOutput v Copies first = first
-secondOutput v (Tested k) first = tested k first (v .code .float)
-secondOutput v Status first = value v (cond (eqb (instr v .given) 2) WORD UNKNOWN)
+-- a native that gives two values gives a word second
+unfoldable pub statusMask : ℕ → Mask
+statusMask given = cond (eqb given 2) WORD UNKNOWN
 
-unfoldable pub restOutput : Visit → Others → Cell → Cell
-restOutput v Unknowns first = value v UNKNOWN
-restOutput v Words first = value v WORD
-restOutput v Checked first = value v WORD
-restOutput v Copies first = first
-restOutput v (Tested k) first = value v UNKNOWN
-restOutput v Status first = value v UNKNOWN
+-- the outputs after the first, from the first
+unfoldable pub secondOutput : Others → Instr → Cell → ℕ → Cell
+secondOutput Unknowns i first float = made UNKNOWN float
+secondOutput Words i first float = made WORD float
+secondOutput Checked i first float = made (first .mask) float
+secondOutput Copies i first float = first
+secondOutput (Tested k) i first float = tested k first float
+secondOutput Status i first float = made (statusMask (i .given)) float
+
+unfoldable pub restOutput : Others → Cell → ℕ → Cell
+restOutput Unknowns first float = made UNKNOWN float
+restOutput Words first float = made WORD float
+restOutput Checked first float = made WORD float
+restOutput Copies first float = first
+restOutput (Tested k) first float = made UNKNOWN float
+restOutput Status first float = made UNKNOWN float
 
 unfoldable pub madeFrom : Visit → Cell → Made
 madeFrom v first =
     record {
       first = first;
-      second = secondOutput v (v .rule .others) first;
-      rest = restOutput v (v .rule .others) first;
+      second = secondOutput (v .rule .others) (instr v) first (v .code .float);
+      rest = restOutput (v .rule .others) first (v .code .float);
     }
 
 unfoldable pub outputs : Visit → Made

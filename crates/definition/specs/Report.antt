@@ -1,4 +1,11 @@
 -- The report of an accepted run, as values and as bytes.
+-- Of types.rs: what `Analysis` holds after validation: states with outputs and guards (lines 1220 to 1232, 1286 to 1291), false inspections
+-- and branches (1292 to 1328), inputs, results, private kinds and flows, the largest reply (487). Of document 01: "Report", tags 16 to 21
+-- and the cell of 49 bytes.
+-- Where it differs: outputs and guards are worked out from the final states, while types.rs keeps those of an instruction's last visit;
+-- that visit was with the final state, so they are the same. Readings: B8 the places of outputs and guards, C1 every signature and slot, C2
+-- absent parts, D5 a guard of mask 0 is listed.
+-- Nothing is left open: guards, which document 01 allows in any order, rise by stack place. Recursion goes along lists.
 use Prim.Native.Nat.{ℕ, suc}
 use mathlib.Core.Bool.{Bool, true, false, not, cond}
 use mathlib.Core.Option.{Option, none, some}
@@ -33,7 +40,7 @@ use Rattle.definition.specs.State.{State, Facts}
 use Rattle.definition.specs.Outputs.{Visit, instr, outputs, noCell}
 use Rattle.definition.specs.Wants.{Guarded, guards}
 use Rattle.definition.specs.Ways.{outputList}
-use Rattle.definition.specs.Leaves.{Known, visitOf, lineAt, noLine}
+use Rattle.definition.specs.Leaves.{Known, visitOf, lineAt}
 use Rattle.definition.specs.Start.{last}
 
 -- tag 17
@@ -103,7 +110,7 @@ recordFrom c i s v =
     }
 
 unfoldable pub recordOf : Known → Chunk → Facts → ℕ → State → Record
-recordOf k c f i s = recordFrom c i s (visitOf k c f (lineAt (c .code) i noLine) s)
+recordOf k c f i s = recordFrom c i s (visitOf k c f i s)
 
 -- an inspection that always says false, a test that always goes one way
 unfoldable pub saysFalse : Others → Cell → Bool
@@ -122,16 +129,16 @@ isTest Stops = false
 isTest Jumps = false
 isTest Restarts = false
 
-abbrev pub ruleAt : Chunk → ℕ → ℕ
-ruleAt c i = lineAt (c .code) i noLine .instr .op
+abbrev pub opAt : Chunk → ℕ → ℕ
+opAt c i = lineAt c i .instr .op
 
 unfoldable pub inspectionOf : Chunk → ℕ → State → List Inspection
 inspectionOf c i s =
-    cond (saysFalse (ruleOf (ruleAt c i) .others) (last (s .stack))) (record { chunk = c .number; instruction = i } ∷ []) []
+    cond (saysFalse (ruleOf (opAt c i) .others) (last (s .stack))) (record { chunk = c .number; instruction = i } ∷ []) []
 
 unfoldable pub branchOf : Chunk → ℕ → State → List Branch
 branchOf c i s =
-    cond (isTest (ruleOf (ruleAt c i) .exit))
+    cond (isTest (ruleOf (opAt c i) .exit))
     (cond (same (last (s .stack) .mask) FALSE) (record { chunk = c .number; instruction = i; value = 0 } ∷ [])
     (cond (same (last (s .stack) .mask) TRUE) (record { chunk = c .number; instruction = i; value = 1 } ∷ []) []))
     []

@@ -22,7 +22,8 @@ use Rattle.ops.specs.Ops.{ruleOf}
 use Rattle.definition.specs.Module.{Module, Chunk, Line, Site, row}
 use Rattle.definition.specs.State.{State, Facts}
 use Rattle.definition.specs.Outputs.{noCell}
-use Rattle.definition.specs.Leaves.{Known, lineAt, noLine}
+use Rattle.definition.specs.Leaves.{Known, lineAt}
+use Rattle.ops.specs.Numbers.{opCall}
 
 -- ---- 9 and 10, by chunk
 unfoldable pub tagMask : ℕ → Mask
@@ -106,7 +107,7 @@ hasSite (x ∷ xs) = isSite (x .site) || hasSite xs
 
 unfoldable pub callsOne : List Bool → List Line → Bool
 callsOne ss [] = false
-callsOne ss (x ∷ xs) = (eqb (x .instr .op) 30 && getD ss (x .instr .a) false) || callsOne ss xs
+callsOne ss (x ∷ xs) = (eqb (x .instr .op) opCall && getD ss (x .instr .a) false) || callsOne ss xs
 
 -- one look at every chunk, what is found used at once
 unfoldable pub suspendMore : List Chunk → List Bool → List Bool
@@ -160,10 +161,10 @@ unfoldable pub stateFault : Line → Option State → ℕ
 stateFault x none = 0
 stateFault x (some s) = inspectionFault (ruleOf (x .instr .op) .others) (last (s .stack))
 
-unfoldable pub inspected : List Line → ℕ → List (Option State) → Option (ℕ × ℕ)
-inspected ls i [] = none
-inspected ls i (s ∷ ss) =
-    cond (eqb (stateFault (lineAt ls i noLine) s) 0) (inspected ls (suc i) ss) (some (stateFault (lineAt ls i noLine) s, i))
+unfoldable pub inspected : Chunk → ℕ → List (Option State) → Option (ℕ × ℕ)
+inspected c i [] = none
+inspected c i (s ∷ ss) =
+    cond (eqb (stateFault (lineAt c i) s) 0) (inspected c (suc i) ss) (some (stateFault (lineAt c i) s, i))
 
 unfoldable pub afterChunk : Chunk → List (Option State) → Option (ℕ × ℕ)
-afterChunk c ss = inspected (c .code) 0 ss
+afterChunk c ss = inspected c 0 ss

@@ -1,4 +1,11 @@
 -- What validation asks of a visit: `require`, `same` and `numeric` of types.rs, the guards that follow, and the packed extent.
+-- Of types.rs: the closures (lines 605 to 661), where the rules call them (662 to 1003), the value that a `Return` gives back (710 to 713),
+-- and 15 (1100 to 1105). Of document 01: 13 and 15, and the guards of tag 19.
+-- Where it differs: types.rs stops at the first requirement that fails; here all are found, and one that is not proven refuses, which is 13
+-- either way. The functions are given masks, since the closures read nothing else of a cell. Readings: D3 tested at every taking, D5 two
+-- requirements on one place meet.
+-- Document 01 leaves the order of guards open; here they rise by stack place. Nothing else is open. Recursion goes along operands and
+-- slots.
 use Prim.Native.Nat.{ℕ, suc, _+_, _-_}
 use mathlib.Core.Bool.{Bool, true, false, not, cond, _&&_}
 use mathlib.Core.Option.{Option, none, some}
@@ -12,6 +19,7 @@ use Rattle.widths.specs.Shape.{shapeMask}
 use Rattle.extents.specs.declared.BodyExtent.{BodyExtent}
 use Rattle.extents.specs.declared.BodyExtent.the-variants.{Absent, Range, Unknown}
 use Rattle.cells.specs.declared.Cell.{Cell}
+use Rattle.description.specs.declared.Instr.{Instr}
 use Rattle.ops.specs.declared.Makes.{Makes}
 use Rattle.ops.specs.declared.Makes.the-variants.{Anything, Constant, Immediate, Local, Operand, OperandMask, Reply, Result, Common, Kind, Negation, OneKind, Slots, Composite, Part, NativeValue}
 use Rattle.ops.specs.declared.Asks.{Asks}
@@ -72,18 +80,51 @@ stored ManySlots = wants WritesIndexed NONE WORD
 abbrev pub isEntry : Visit → Bool
 isEntry v = eqb (v .chunk .number) (v .code .entry)
 
-unfoldable pub wantOf : Visit → Asks → Want
-wantOf v Free = nothing
-wantOf v (OneWithin m) = wants First m NONE
-wantOf v (TwoWithin m n) = wants Both m n
-wantOf v Yielded = wants First (yieldedMask (v .line .site)) NONE
-wantOf v Returned = cond (isEntry v) (wants Below (shapeMask (v .chunk .result)) NONE) nothing
-wantOf v (EachWithin m) = every (common (shared v) m)
-wantOf v Ordered = every (common (common (kind (arg v 0 .mask)) (kind (arg v 1 .mask))) NUMERIC)
-wantOf v (Same k) = same (shared v) k
-wantOf v Stored = stored (v .rule .slots)
-wantOf v (PartOf k) = cond (ltb 1 (instr v .a)) never (wants First k NONE)
-wantOf v NotProven = never
+-- the kinds that the first two operands have in common
+unfoldable pub pairKinds : Visit → Mask
+pairKinds v = common (kind (arg v 0 .mask)) (kind (arg v 1 .mask))
+
+-- what is declared: the kinds that the site yields for a `Yield`, those of the chunk's result for a `Return`
+unfoldable pub declaredKinds : Asks → Mask → Mask → Mask
+declaredKinds Yielded yielded result = yielded
+declaredKinds Returned yielded result = result
+declaredKinds Free yielded result = NONE
+declaredKinds (OneWithin m) yielded result = NONE
+declaredKinds (TwoWithin m n) yielded result = NONE
+declaredKinds (EachWithin m) yielded result = NONE
+declaredKinds Ordered yielded result = NONE
+declaredKinds (Same k) yielded result = NONE
+declaredKinds Stored yielded result = NONE
+declaredKinds (PartOf k) yielded result = NONE
+declaredKinds NotProven yielded result = NONE
+
+-- a `Return` of the entry gives back its declared kinds
+unfoldable pub returnedWant : Bool → Mask → Want
+returnedWant entry declared = cond entry (wants Below declared NONE) nothing
+
+-- the composite that a field read wants; a boxed read is never proven
+unfoldable pub partWant : Instr → Mask → Want
+partWant i k = cond (ltb 1 (i .a)) never (wants First k NONE)
+
+-- all: the kinds that all operands have in common; pair: those of the first two; declared: what the site or the chunk declares
+unfoldable pub wantBy : Asks → Data → Instr → Mask → Mask → Mask → Bool → Want
+wantBy Free slots i all pair declared entry = nothing
+wantBy (OneWithin m) slots i all pair declared entry = wants First m NONE
+wantBy (TwoWithin m n) slots i all pair declared entry = wants Both m n
+wantBy Yielded slots i all pair declared entry = wants First declared NONE
+wantBy Returned slots i all pair declared entry = returnedWant entry declared
+wantBy (EachWithin m) slots i all pair declared entry = every (common all m)
+wantBy Ordered slots i all pair declared entry = every (common pair NUMERIC)
+wantBy (Same k) slots i all pair declared entry = same all k
+wantBy Stored slots i all pair declared entry = stored slots
+wantBy (PartOf k) slots i all pair declared entry = partWant i k
+wantBy NotProven slots i all pair declared entry = never
+
+unfoldable pub declaredMask : Visit → Mask
+declaredMask v = declaredKinds (v .rule .asks) (yieldedMask (v .line .site)) (shapeMask (v .chunk .result))
+
+unfoldable pub wantOf : Visit → Want
+wantOf v = wantBy (v .rule .asks) (v .rule .slots) (instr v) (shared v) (pairKinds v) (declaredMask v) (isEntry v)
 
 -- a value of this mask, written to each of the slots
 unfoldable pub writeCheck : Module → Facts → Mask → Check → List ℕ → Check
@@ -133,7 +174,7 @@ checksBy v w Never = record { place = 0; found = Unproven } ∷ []
 
 -- all that is asked of a visit, by stack place
 unfoldable pub checks : Visit → List Asked
-checks v = checksBy v (wantOf v (v .rule .asks)) (wantOf v (v .rule .asks) .ask)
+checks v = checksBy v (wantOf v) (wantOf v .ask)
 
 unfoldable pub isProven : Check → Bool
 isProven Fine = true

@@ -1,6 +1,13 @@
 -- The ways that leave an instruction, and what leaves along each.
+-- Of types.rs: the successors (lines 1236 to 1255) and the narrowing on each way (1256 to 1266), `narrow_enum` and `invalidate` of `Facts`
+-- (342 to 363); the state that leaves (1233 to 1235), with what is forgotten where a local is set (1152 to 1192), and after `Reset` (987 to
+-- 994, 1067 to 1074, 1203 to 1210). Of document 01: "Passes" in "Steps and passes".
+-- Readings, all of them what types.rs does: D7 a branch to the very next instruction has two equal ways, D8 narrowing keeps the other
+-- extents.
+-- Left open: whether a target lies in the chunk. Targets past the end stand in the list too; the machine drops them (`putIn` in
+-- Machine.antt), as types.rs does at 1267, after the narrowing. Recursion goes along lists (ways, cells).
 use Prim.Native.Nat.{ℕ, suc}
-use mathlib.Core.Bool.{Bool, false, not, cond}
+use mathlib.Core.Bool.{Bool, true, false, not, cond}
 use mathlib.Core.Option.{Option, none, some}
 use mathlib.Core.List.{List, [], _∷_, _++_, map}
 use lib.Dec.{eqb}
@@ -93,28 +100,34 @@ unfoldable pub resetFirst : Bool → Cell → List Cell → List Cell
 resetFirst streams reply [] = []
 resetFirst streams reply (c ∷ cs) = cond streams reply unitCell ∷ map (λ x. unitCell) cs
 
-unfoldable pub afterBy : Visit → Acts → State
-afterBy v Still = kept v (outputs v) (setting v Still)
-afterBy v SetsLocal = kept v (outputs v) (setting v SetsLocal)
-afterBy v Yields = kept v (outputs v) (setting v Yields)
-afterBy v Calls = kept v (outputs v) (setting v Calls)
-afterBy v Returns = kept v (outputs v) (setting v Returns)
-afterBy v Resets = record { stack = outputList (outputs v) (instr v .given); locals = resetFirst (v .streams) (v .reply) (v .locals) }
-afterBy v Stores = kept v (outputs v) (setting v Stores)
+unfoldable pub isReset : Acts → Bool
+isReset Resets = true
+isReset Still = false
+isReset SetsLocal = false
+isReset Yields = false
+isReset Calls = false
+isReset Returns = false
+isReset Stores = false
+
+unfoldable pub reset : Visit → Made → State
+reset v m = record { stack = outputList m (instr v .given); locals = resetFirst (v .streams) (v .reply) (v .locals) }
 
 -- the state after the visit, before a way is taken
 unfoldable pub after : Visit → State
-after v = afterBy v (v .rule .acts)
+after v = cond (isReset (v .rule .acts)) (reset v (outputs v)) (kept v (outputs v) (setting v (v .rule .acts)))
 
 unfoldable pub onWay : ℕ → Option State → List (ℕ × State) → List (ℕ × State)
 onWay to none ws = ws
 onWay to (some x) ws = (to, x) ∷ ws
 
+-- the local that is narrowed on the way to `to`
+abbrev pub narrowedOn : Visit → ℕ → Option ℕ
+narrowedOn v to = narrowing (v .rule .exit) (arg v 0 .flow .predicate) (instr v .a) to
+
 -- what leaves along each way that is not cut
 unfoldable pub leavingBy : Visit → State → List ℕ → List (ℕ × State)
 leavingBy v x [] = []
-leavingBy v x (to ∷ tos) =
-    onWay to (along x (narrowing (v .rule .exit) (arg v 0 .flow .predicate) (instr v .a) to)) (leavingBy v x tos)
+leavingBy v x (to ∷ tos) = onWay to (along x (narrowedOn v to)) (leavingBy v x tos)
 
-unfoldable pub leaving : Visit → ℕ → List (ℕ × State)
-leaving v i = leavingBy v (after v) (waysOf (v .rule .exit) i (instr v .a) (arg v 0 .mask))
+unfoldable pub leaving : Visit → List (ℕ × State)
+leaving v = leavingBy v (after v) (waysOf (v .rule .exit) (v .at) (instr v .a) (arg v 0 .mask))

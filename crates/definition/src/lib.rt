@@ -1,7 +1,13 @@
-// The definition of the whole call stands in specs/. Here are the types that it shares with the code.
+// The definition of the whole call stands in specs/. Here are the types that it shares with the code, and two small functions of it that
+// crates with nothing else in common use.
 use answers::Refusal;
 use cells::Cell;
+use description::params_of;
 use masks::Mask;
+ghost use mathlib.Core.Path.{_≡_};
+ghost use Prim.Native.Nat.{_<_, _^_};
+ghost use Rattle.definition.specs.Module.{signedParams};
+ghost use Rattle.definition.specs.Outputs.{output};
 
 // The outputs of an instruction: the first, the second, and all others.
 pub struct Made {
@@ -51,7 +57,7 @@ pub struct Scan {
     pub cells: u64,
 }
 
-pub enum Step {
+pub enum ScanStep {
     Go(Scan),
     Stop(Refusal),
 }
@@ -60,4 +66,28 @@ pub enum Step {
 pub enum Form {
     Fine(u64),
     Refused(Refusal),
+}
+
+// The output k of an instruction.
+pub fn output(m: Made, k: usize) -> Cell
+    ensures { λ r. ⌜ r ≡ output m k ⌝ }
+{
+    if k == 0 {
+        return m.first;
+    }
+    if k == 1 {
+        return m.second;
+    }
+    m.rest
+}
+
+// The parameter shapes of the chunk field at p; a chunk past the signatures has none.
+pub fn params_in(s: &[u8], p: usize, signed: bool) -> u8
+    requires { ⌜ p < 2 ^ 62 ⌝ }
+    ensures { λ r. ⌜ r ≡ signedParams (now (s .entry)) p signed ⌝ }
+{
+    if !signed {
+        return 0;
+    }
+    params_of(s, p)
 }

@@ -26,7 +26,7 @@ pub fn header_at(s: &[u8], p: usize) -> Header
 }
 
 // Field 2.
-pub fn chunk_at(s: &[u8], p: usize) -> ChunkHead
+pub fn chunk_head_at(s: &[u8], p: usize) -> ChunkHead
     requires { ⌜ p < 2 ^ 62 ⌝ }
     ensures { λ r. ⌜ r ≡ chunkOf (now (s .entry)) p ⌝ }
 {

@@ -1,9 +1,10 @@
-// The fields of a description, read at a place. Every read is total.
+// The fields of a description, read at a place: their fixed parts (`heads`), their shapes (`shapes`), here all else. Every read is total.
+// `reader` has the reader that remembers how far it has read.
 mod heads;
 pub mod reader;
 mod shapes;
 
-pub use heads::chunk_at;
+pub use heads::chunk_head_at;
 pub use heads::header_at;
 pub use heads::instr_at;
 pub use shapes::declared_result;

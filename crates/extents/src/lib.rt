@@ -1,4 +1,4 @@
-// Extents: the size range of a body of one kind.
+// Extents: the size range of a body of one kind; and four of them, one for each kind (`bodies`).
 mod bodies;
 
 pub use bodies::join_bodies;

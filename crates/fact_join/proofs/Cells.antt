@@ -25,7 +25,7 @@ use Rattle.visit.specs.Held.{factsIn, liveIn}
 use Rattle.run_state.proofs.Stays.{inputs-end}
 use Rattle.fact_join.proofs.Lists.{places-same, places-joined, places-moved}
 use Rattle.fact_join.proofs.Frames.{either, live-eq, InArea, area-only, area-masks, area-flows, area-writes, area-inputs, area-result}
-use Rattle.fact_join.specs.Taken.{Took}
+use Rattle.fact_join.specs.Taken.{FactsAfter}
 
 -- ---- fewer cells arrive than there are places
 join-front : (os xs bs : List Cell) → length os ≡ length xs → joinCells (os ++ bs) xs ≡ joinCells os xs ++ bs
@@ -112,7 +112,7 @@ module _ (s ws v : List ℕ) (n t : ℕ) (xs : List Cell) (changed b : Bool) (i 
   unfolding factsIn liveIn absorb
   call-changed = ap (λ (r : Bool). changed || r) (changed-among _ t _ xs ws v b x l ∙ places-moved _ _ n h joinCells [] xs sameCells)
 
-  pub arguments-taken : Took s ws v (changed || b) (absorb (moduleOf s) (liveIn s ws changed) (arguments n xs))
+  pub arguments-taken : FactsAfter s ws v (changed || b) (absorb (moduleOf s) (liveIn s ws changed) (arguments n xs))
   unfolding liveIn absorb
   arguments-taken =
       record {
@@ -157,7 +157,7 @@ module _ (s ws v : List ℕ) (n : ℕ) (c : Cell) (changed b : Bool) (i : Indexe
   unfolding factsIn liveIn absorb
   return-changed = ap (λ (r : Bool). changed || r) (one-changed _ c ws v b x ∙ places-moved _ _ n h joinCell noCell c sameCell)
 
-  pub result-taken : Took s ws v (changed || b) (absorb (moduleOf s) (liveIn s ws changed) (returned n c))
+  pub result-taken : FactsAfter s ws v (changed || b) (absorb (moduleOf s) (liveIn s ws changed) (returned n c))
   unfolding liveIn absorb
   result-taken =
       record {

@@ -5,7 +5,7 @@ use mathlib.Core.Path.{_≡_, refl, sym, ap, ap₂, _∙_}
 use mathlib.Core.Bool.{Bool, true, false, cond, _||_}
 use mathlib.Core.List.{List, map}
 use mathlib.Core.Logic.{inl, inr}
-use lib.Dec.{ltb}
+use lib.Dec.{eqb, ltb}
 use lib.ListN.{length, getD}
 use borrow.Author.Tests.{ltb-false, eqb-false}
 use Rattle.cells.specs.declared.Cell.{Cell}
@@ -27,20 +27,22 @@ use Rattle.definition.specs.Data.{slotCount, slotsFrom, dataFault}
 use Rattle.definition.specs.Outputs.{Visit, noCell, arg, instr}
 use Rattle.definition.specs.Wants.{isEntry}
 use Rattle.definition.specs.Wants.{returned as valueBelow}
-use Rattle.definition.specs.Leaves.{visitOf, hopeless, nothingBelow, always, givesBy, gives, absorb}
-use Rattle.form_laws.specs.Good.{chunkNo, lineNo}
-use Rattle.layout.specs.Layout.{inputAt, placeAt}
+use Rattle.definition.specs.Leaves.{visitOf, hopeless, isReturn, nothingBelow, always, givesBy, gives, absorb, lineAt}
+use Rattle.form_laws.specs.Good.{chunkNo}
+use Rattle.layout.specs.Layout.{inputAt, placeAt, stackAt}
 use Rattle.layout.proofs.Apart.{by-order, area-apart, row-before, row-begins, rows-begin, rows-in-area, result-next, result-in, inputs-begin}
-use Rattle.row_join.specs.places.Arrive.{Places}
-use Rattle.visit.specs.declared.Visit.{Visit as Look}
+use Rattle.row_join.specs.places.Arrive.{PlacesApart}
+use Rattle.visit.specs.declared.RowVisit.{RowVisit}
 use Rattle.visit.specs.Held.{Looking, argsIn, knownIn, visitIn, liveIn}
-use Rattle.visit.proofs.Visits.{args-are, below-is, below-long, row-there}
+use Rattle.visit.proofs.operands.Parts.{code-is, ins-is, rule-is}
+use Rattle.visit.proofs.Visits.{height-is, args-are, below-is, below-long, row-there}
 use Rattle.run_state.specs.Course.{FactsOnly}
 use Rattle.run_state.proofs.Stays.{inputs-end}
 use Rattle.rule_laws.proofs.Told.{call-is, call-callee}
 use Rattle.fact_join.proofs.Frames.{facts-refl}
-use Rattle.fact_join.specs.Taken.{Took}
+use Rattle.fact_join.specs.Taken.{FactsAfter}
 use Rattle.fact_join.proofs.Cells.{signed}
+use Rattle.ops.specs.Numbers.{opCall}
 
 -- ---- only `Call` gives arguments
 -- ---- a visit that is never refused
@@ -61,48 +63,36 @@ slot-there m i NoSlot h k a b = absurd (omega arith)
 slot-there m i OneSlot h k a b = omega (arith, ltb-false (m .slots) (i .a + 1) (within-slots (ltb (m .slots) (i .a + 1)) _ h))
 slot-there m i ManySlots h k a b = omega (arith, ltb-false (m .slots) (i .a + i .b) (within-slots (ltb (m .slots) (i .a + i .b)) _ h))
 
-never-refused : (u : Visit) (n : ℕ) → always u n ≡ 0
-    → (ltb n (instr u .taken) ≡ false) × (nothingBelow u (u .rule .acts) ≡ false) × (dataFault (u .code) (instr u) (u .rule .slots) ≡ 0)
+never-refused : (u : Visit) → always u ≡ 0
+    → (ltb (u .height) (instr u .taken) ≡ false) × (nothingBelow u ≡ false) × (dataFault (u .code) (instr u) (u .rule .slots) ≡ 0)
 unfolding always
-never-refused u n h = no-fault (ltb n (instr u .taken)) (hopeless u (u .rule .asks)) (nothingBelow u (u .rule .acts)) _ h
+never-refused u h = no-fault (ltb (u .height) (instr u .taken)) (hopeless (u .rule .asks) (instr u .a)) (nothingBelow u) _ h
 
-module _ (s ws : List ℕ) (v : Look) (x : Looking s ws v) where
-  rule-is : visitIn s ws v .rule ≡ v .rule
-  unfolding visitIn visitOf
-  rule-is = ap (λ (i : Instr). ruleOf (i .op)) (sym (x .ins)) ∙ sym (x .rule)
-
-  instr-is : instr (visitIn s ws v) ≡ v .ins
-  unfolding visitIn visitOf
-  instr-is = sym (x .ins)
-
-  code-is : visitIn s ws v .code ≡ moduleOf s
-  unfolding visitIn visitOf knownIn
-  code-is = refl
-
+module _ (s ws : List ℕ) (v : RowVisit) (x : Looking s ws v) where
   acts-are : (a : Acts) → v .rule .acts ≡ a → visitIn s ws v .rule .acts ≡ a
-  acts-are a e = ap (λ (r : Rule). r .acts) rule-is ∙ e
+  acts-are a e = ap (λ (r : Rule). r .acts) (sym (rule-is s ws v x)) ∙ e
 
   -- ---- what is there
-  module _ (h : always (visitIn s ws v) (v .height) ≡ 0) where
+  module _ (h : always (visitIn s ws v) ≡ 0) where
     pub taken-there : v .ins .taken ≤ v .height
     taken-there =
-        omega (arith, ltb-false (v .height) (instr (visitIn s ws v) .taken) (never-refused (visitIn s ws v) (v .height) h .0), ap (λ (i : Instr). i .taken) instr-is)
+        omega (arith, ltb-false (visitIn s ws v .height) (instr (visitIn s ws v) .taken) (never-refused (visitIn s ws v) h .0), height-is s ws v, ap (λ (i : Instr). i .taken) (ins-is s ws v x))
 
     pub value-there : v .rule .acts ≡ Returns → 0 < v .start
-    unfolding nothingBelow
+    unfolding isReturn
     value-there e =
-        let p = ap (nothingBelow (visitIn s ws v)) (sym (acts-are Returns e)) ∙ never-refused (visitIn s ws v) (v .height) h .1 in
+        let p : eqb (length (visitIn s ws v .below)) 0 ≡ false = rw (acts-are Returns e) at (never-refused (visitIn s ws v) h .1) in
         by-order 0 (v .start) (λ l. l) (λ q. absurd (eqb-false (length (visitIn s ws v .below)) 0 p (below-long s ws v x ∙ sym q))) (λ l. absurd (omega arith))
 
     pub slots-there : dataFault (moduleOf s) (v .ins) (v .rule .slots) ≡ 0
     slots-there =
-        (λ k. dataFault (sym code-is k) (sym instr-is k) (sym rule-is k .slots)) ∙ never-refused (visitIn s ws v) (v .height) h .2
+        (λ k. dataFault (sym (code-is s ws v) k) (ins-is s ws v x k) (rule-is s ws v x k .slots)) ∙ never-refused (visitIn s ws v) h .2
 
   module _ (e : v .rule .acts ≡ Calls) where
-    calls : v .ins .op ≡ 30
+    calls : v .ins .op ≡ opCall
     calls = call-is (v .ins .op) (ap (λ (r : Rule). r .acts) (sym (x .rule)) ∙ e)
 
-    line-calls : lineNo (chunkNo (moduleOf s) (v .chunk)) (v .at) .instr .op ≡ 30
+    line-calls : lineAt (chunkNo (moduleOf s) (v .chunk)) (v .at) .instr .op ≡ opCall
     line-calls = ap (λ (i : Instr). i .op) (sym (x .ins)) ∙ calls
 
     pub callee-there : v .ins .a < moduleOf s .signatures
@@ -114,7 +104,7 @@ module _ (s ws : List ℕ) (v : Look) (x : Looking s ws v) where
         omega (arith, x .indexed .good .eachChunk (v .chunk) (x .chunk) .lines (v .at) (x .at) .call line-calls, ap (λ (i : Instr). i .taken) (x .ins), ap (λ (i : Instr). length (chunkNo (moduleOf s) (i .a) .params)) (x .ins))
 
     -- the operands are read before the callee's inputs are written, or stand elsewhere
-    pub inputs-places : v .ins .taken ≤ v .height → Places ws (placeAt (v .row) (v .start)) (inputAt (moduleOf s) (v .ins .a) 0) (v .ins .taken)
+    pub inputs-places : v .ins .taken ≤ v .height → PlacesApart ws (placeAt (v .row) (v .start)) (inputAt (moduleOf s) (v .ins .a) 0) (v .ins .taken)
     inputs-places l =
         record {
           source = omega (arith, row-there s ws v x, x .low, x .start);
@@ -146,17 +136,17 @@ module _ (s ws : List ℕ) (v : Look) (x : Looking s ws v) where
 
   pub gives-arguments : v .rule .acts ≡ Calls → gives (visitIn s ws v) ≡ arguments (v .ins .a) (map bareCell (argsIn ws v))
   unfolding givesBy
-  gives-arguments e = gives-by Calls e ∙ ap₂ (λ (i : Instr) (l : List Cell). arguments (i .a) (map bareCell l)) instr-is (args-are s ws v x)
+  gives-arguments e = gives-by Calls e ∙ ap₂ (λ (i : Instr) (l : List Cell). arguments (i .a) (map bareCell l)) (sym (ins-is s ws v x)) (args-are s ws v x)
 
   pub gives-writes : v .rule .acts ≡ Stores → gives (visitIn s ws v) ≡ written (slotsFrom (v .ins) (v .rule .slots)) (getD (argsIn ws v) 0 noCell)
   unfolding givesBy
   gives-writes e =
-      gives-by Stores e ∙ (λ k. written (slotsFrom (instr-is k) (rule-is k .slots)) (getD (args-are s ws v x k) 0 noCell))
+      gives-by Stores e ∙ (λ k. written (slotsFrom (sym (ins-is s ws v x) k) (sym (rule-is s ws v x) k .slots)) (getD (args-are s ws v x k) 0 noCell))
 
   value-is : 0 < v .start → valueBelow (visitIn s ws v) ≡ cellAt ws (placeAt (v .row) (v .start - 1))
   value-is l =
       ap₂ (λ (cs : List Cell) (n : ℕ). getD cs (n - 1) (arg (visitIn s ws v) 0)) (below-is s ws v x) (below-long s ws v x)
-      ∙ cellsAt-getD ws (v .row + 96) (v .start) (v .start - 1) _ (omega arith)
+      ∙ cellsAt-getD ws (stackAt (v .row)) (v .start) (v .start - 1) _ (omega arith)
 
   number-is : visitIn s ws v .chunk .number ≡ v .chunk
   unfolding visitIn visitOf
@@ -176,7 +166,7 @@ module _ (s ws : List ℕ) (v : Look) (x : Looking s ws v) where
 
 -- ---- as the definition absorbs it
 module _ (s ws : List ℕ) (changed : Bool) (h : Gift) where
-  pub taken-in : (v : List ℕ) (r : Bool) (g : Gift) → h ≡ g → Took s ws v r (absorb (moduleOf s) (liveIn s ws changed) g)
+  pub taken-in : (v : List ℕ) (r : Bool) (g : Gift) → h ≡ g → FactsAfter s ws v r (absorb (moduleOf s) (liveIn s ws changed) g)
       → FactsOnly s ws v × (liveIn s v r ≡ absorb (moduleOf s) (liveIn s ws changed) h)
   taken-in v r g e x = (x .frame, rw e (x .live))
 

@@ -15,7 +15,7 @@ use Rattle.flows.specs.declared.Flow.{Flow}
 use Rattle.flows.specs.declared.JoinedFlow.{JoinedFlow}
 use Rattle.flows.specs.Flow.{joinFlow, sameFlow, joinedFlow, noFlow}
 use Rattle.cells.specs.declared.Cell.{Cell}
-use Rattle.words.specs.Layout.{cellAt, decode, putCell, Fit}
+use Rattle.words.specs.Layout.{cellAt, decode, putCell, Storable}
 use Rattle.words.proofs.Laws.{cellAt-put}
 use Rattle.words.specs.Rows.{Outside}
 use Rattle.words.proofs.RowLaws.{outside-widen, outside-put, outside-set, cellAt-outside}
@@ -29,7 +29,7 @@ use Rattle.layout.specs.Layout.{slotAt}
 use Rattle.visit.specs.Held.{factsIn, writesIn, liveIn}
 use Rattle.fact_join.proofs.Lists.{places-same, places-joined, places-moved}
 use Rattle.fact_join.proofs.Frames.{facts-refl, facts-trans, either, live-eq, slot-word, slot-cell, slot-only, slot-inputs, slot-results}
-use Rattle.fact_join.specs.Taken.{Took, Written, Flowed, writesAt, withLow}
+use Rattle.fact_join.specs.Taken.{FactsAfter, Written, Flowed, writesAt, withLow}
 
 -- ---- the words
 -- the low half of a word is put anew
@@ -65,7 +65,7 @@ written-low ws v at k u l q f e =
     })
 
 pub flowed-put : (ws v : List ℕ) (at : ℕ) (f : Flow) (c : Cell) (j : JoinedFlow) → at + 16 ≤ length ws
-    → j ≡ joinedFlow (cellAt ws at .flow) (storedFlow f) → c .mask ≡ cellAt ws at .mask → c .flow ≡ j .flow → v ≡ putCell ws at c → Fit c
+    → j ≡ joinedFlow (cellAt ws at .flow) (storedFlow f) → c .mask ≡ cellAt ws at .mask → c .flow ≡ j .flow → v ≡ putCell ws at c → Storable c
     → Flowed at f ws v (j .changed)
 flowed-put ws v at f c j l q k w e fit =
     record {
@@ -87,7 +87,7 @@ module _ (s ws v : List ℕ) (k : ℕ) (c : Cell) (changed : Bool) (h : k < modu
   written-cell : (n : ℕ) → cellAt v (slotAt (moduleOf s) n) ≡ cellAt ws (slotAt (moduleOf s) n)
   written-cell n = either n k (λ d. slot-cell s ws v k h written-in n d) (λ e. rw e (cellAt-outside (x .out) _ (inl (omega arith))))
 
-  pub mask-taken : Took s ws v changed (writeMask (liveIn s ws changed) k c)
+  pub mask-taken : FactsAfter s ws v changed (writeMask (liveIn s ws changed) k c)
   unfolding liveIn factsIn writesIn writeMask
   mask-taken =
       record {
@@ -115,7 +115,7 @@ module _ (s ws v : List ℕ) (k : ℕ) (c : Cell) (changed b : Bool) (h : k < mo
   flowed-mask : (n : ℕ) → cellAt v (slotAt (moduleOf s) n) .mask ≡ cellAt ws (slotAt (moduleOf s) n) .mask
   flowed-mask n = either n k (λ d. ap (λ (y : Cell). y .mask) (slot-cell s ws v k h flowed-in n d)) (λ e. rw e (x .mask))
 
-  pub flow-taken : Took s ws v (changed || b) (writeFlow (liveIn s ws changed) k c)
+  pub flow-taken : FactsAfter s ws v (changed || b) (writeFlow (liveIn s ws changed) k c)
   unfolding liveIn factsIn writesIn writeFlow withFlows
   flow-taken =
       record {
@@ -131,7 +131,7 @@ module _ (s ws v : List ℕ) (k : ℕ) (c : Cell) (changed b : Bool) (h : k < mo
 -- ---- one slot: a body's, another private one's, a shared one's
 module _ (s ws : List ℕ) (k : ℕ) (c : Cell) (changed : Bool) where
   pub body-taken : (v u : List ℕ) (b : Bool) → k < moduleOf s .slots → isBody (moduleOf s) k ≡ true → Written (slotAt (moduleOf s) k) (c .mask) ws v
-      → Flowed (slotAt (moduleOf s) k) (c .flow) v u b → Took s ws u (changed || b) (writeSlot (moduleOf s) (liveIn s ws changed) k c)
+      → Flowed (slotAt (moduleOf s) k) (c .flow) v u b → FactsAfter s ws u (changed || b) (writeSlot (moduleOf s) (liveIn s ws changed) k c)
   unfolding writeSlot
   body-taken v u b h p x y =
       let a = mask-taken s ws v k c changed h x in
@@ -142,18 +142,18 @@ module _ (s ws : List ℕ) (k : ℕ) (c : Cell) (changed : Bool) where
       }
 
   pub private-taken : (v : List ℕ) → k < moduleOf s .slots → isBody (moduleOf s) k ≡ false → leb (length (moduleOf s .shared)) k ≡ true
-      → Written (slotAt (moduleOf s) k) (c .mask) ws v → Took s ws v changed (writeSlot (moduleOf s) (liveIn s ws changed) k c)
+      → Written (slotAt (moduleOf s) k) (c .mask) ws v → FactsAfter s ws v changed (writeSlot (moduleOf s) (liveIn s ws changed) k c)
   unfolding writeSlot
   private-taken v h p q x = let a = mask-taken s ws v k c changed h x in record { frame = a .frame; live = a .live ∙ rw (p, q) }
 
   pub shared-taken : isBody (moduleOf s) k ≡ false → leb (length (moduleOf s .shared)) k ≡ false
-      → Took s ws ws changed (writeSlot (moduleOf s) (liveIn s ws changed) k c)
+      → FactsAfter s ws ws changed (writeSlot (moduleOf s) (liveIn s ws changed) k c)
   unfolding writeSlot
   shared-taken p q = record { frame = facts-refl s ws; live = rw (p, q) }
 
 -- ---- the slots k to e, less e itself
 module _ (s ws : List ℕ) (k e : ℕ) (c : Cell) (a : Bool) (x : Live) (h : writeSlots (moduleOf s) (liveIn s ws a) (row (λ j. j) k (e - k)) c ≡ x) where
-  pub writes-turn : (v : List ℕ) (r : Bool) → k < e → Took s ws v r (writeSlot (moduleOf s) (liveIn s ws a) k c)
+  pub writes-turn : (v : List ℕ) (r : Bool) → k < e → FactsAfter s ws v r (writeSlot (moduleOf s) (liveIn s ws a) k c)
       → writeSlots (moduleOf s) (liveIn s v r) (row (λ j. j) (k + 1) (e - (k + 1))) c ≡ x
   unfolding writeSlots row
   writes-turn v r l y =

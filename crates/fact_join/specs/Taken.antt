@@ -1,4 +1,4 @@
--- What the functions of this crate show: the facts after a write, and of a slot's cell the words that changed.
+-- What each function here leaves: the facts after a write, and of a slot's cell the words that changed.
 use Prim.Native.Nat.{ℕ, _+_, _*_, _/_, _%_}
 use mathlib.Core.Path.{_≡_}
 use mathlib.Core.Bool.{Bool, not}
@@ -6,6 +6,7 @@ use mathlib.Core.List.{List}
 use lib.ListN.{getD, set}
 use Rattle.masks.specs.declared.Mask.{Mask}
 use Rattle.masks.specs.Mask.{of, union, same}
+use Rattle.masks.specs.Names.{NONE}
 use Rattle.flows.specs.declared.Flow.{Flow}
 use Rattle.flows.specs.Flow.{joinFlow, sameFlow}
 use Rattle.words.specs.Layout.{cellAt}
@@ -16,7 +17,7 @@ use Rattle.visit.specs.Held.{liveIn}
 use Rattle.run_state.specs.Course.{FactsOnly}
 
 -- only facts have changed, and r says whether they did so far in this round
-pub record Took (s ws v : List ℕ) (r : Bool) (x : Live) : Type 0 where
+pub record FactsAfter (s ws v : List ℕ) (r : Bool) (x : Live) : Type 0 where
   pub frame : FactsOnly s ws v
   pub live : liveIn s v r ≡ x
 
@@ -50,5 +51,5 @@ pub record Merged (at : ℕ) (ws v : List ℕ) (b : Bool) : Type 0 where
   pub mark : markAt v at ≡ markAt ws at
   pub mask : cellAt v at .mask ≡ union (cellAt ws at .mask) (writesAt ws at)
   pub flow : cellAt v at .flow ≡ cellAt ws at .flow
-  pub writes : writesAt v at ≡ of 0
+  pub writes : writesAt v at ≡ NONE
   pub changed : b ≡ not (same (cellAt ws at .mask) (union (cellAt ws at .mask) (writesAt ws at)))

@@ -17,7 +17,7 @@ use masks::Mask;
 pub use merging::merge_writes;
 use ops::Acts;
 use row_join::join_one;
-use visit::Visit;
+use visit::RowVisit;
 use visit::operand;
 use visit::slots_of;
 use words::load;
@@ -39,14 +39,15 @@ ghost use Rattle.definition.specs.Wants.{isEntry};
 ghost use Rattle.definition.specs.Leaves.{always, gives, absorb, moved, storedFlow, writeSlot};
 ghost use Rattle.layout.specs.Layout.{placeAt};
 ghost use Rattle.layout.specs.Indexed.{Indexed, tablesOf, chunkAt};
-ghost use Rattle.row_join.specs.places.Arrive.{Places, Arrived};
+ghost use Rattle.row_join.specs.places.Arrive.{PlacesApart, Arrived};
 ghost use Rattle.visit.specs.Held.{Looking, argsIn, visitIn, liveIn};
 ghost use Rattle.run_state.specs.Course.{FactsOnly};
-ghost use Rattle.fact_join.specs.Taken.{Took, Written, Flowed, withLow};
+ghost use Rattle.fact_join.specs.Taken.{FactsAfter, Written, Flowed, withLow};
 
-// The cells from on are joined into the n facts between chunks that stand to on; whether one changed.
+// Joins the n cells from word `from` on into the n facts of a chunk from word `to` on, each without origin and predicate, which name locals
+// of the caller. Answers whether one of the facts changed.
 fn join_facts(ws: &mut [u32], from: usize, to: usize, n: usize) -> bool
-    requires { ⌜ Places (now ws) from to n ⌝ }
+    requires { ⌜ PlacesApart (now ws) from to n ⌝ }
     ensures { λ r. ⌜ Arrived false to n (map bareCell (cellsAt (now (ws .entry)) from n)) (now (ws .entry)) (now (ws .exit)) r ⌝ }
 {
     let mut k = 0;
@@ -59,12 +60,12 @@ fn join_facts(ws: &mut [u32], from: usize, to: usize, n: usize) -> bool
     moved
 }
 
-fn give_arguments(s: &[u8], ws: &mut [u32], v: Visit, changed: bool) -> bool
+fn give_arguments(s: &[u8], ws: &mut [u32], v: RowVisit, changed: bool) -> bool
     requires { ⌜ Looking (now s) (now ws) v ⌝ }
     requires { ⌜ v .rule .acts ≡ Acts.Calls ⌝ }
     requires { ⌜ v .ins .taken ≤ v .height ⌝ }
     ensures { λ r. ⌜
-        Took (now (s .entry)) (now (ws .entry)) (now (ws .exit)) r
+        FactsAfter (now (s .entry)) (now (ws .entry)) (now (ws .exit)) r
         (absorb (moduleOf (now (s .entry))) (liveIn (now (s .entry)) (now (ws .entry)) changed)
         (arguments (v .ins .a) (map bareCell (argsIn (now (ws .entry)) v))))
         ⌝ }
@@ -77,9 +78,9 @@ fn give_arguments(s: &[u8], ws: &mut [u32], v: Visit, changed: bool) -> bool
 }
 
 // The value below the operands goes into the chunk's result; whether that changed.
-fn give_result(ws: &mut [u32], ch: Chunk, v: Visit) -> bool
+fn give_result(ws: &mut [u32], ch: Chunk, v: RowVisit) -> bool
     requires { ⌜ 0 < v .start ⌝ }
-    requires { ⌜ v .row + 96 + 16 * v .start ≤ length (now ws) ⌝ }
+    requires { ⌜ placeAt (v .row) (v .start) ≤ length (now ws) ⌝ }
     requires { ⌜ ch .inputs + 16 * ch .params + 16 ≤ length (now ws) ⌝ }
     ensures { λ r. ⌜
         Arrived false (ch .inputs + 16 * ch .params) 1 (bareCell (cellAt (now (ws .entry)) (placeAt (v .row) (v .start - 1))) ∷ [])
@@ -153,7 +154,7 @@ fn write_slot(s: &[u8], ws: &mut [u32], t: Tables, slot: usize, value: Cell, cha
     requires { ⌜ t ≡ tablesOf (now s) ⌝ }
     requires { ⌜ slot < t .slots ⌝ }
     ensures { λ r. ⌜
-        Took (now (s .entry)) (now (ws .entry)) (now (ws .exit)) r
+        FactsAfter (now (s .entry)) (now (ws .entry)) (now (ws .exit)) r
         (writeSlot (moduleOf (now (s .entry))) (liveIn (now (s .entry)) (now (ws .entry)) changed) slot value)
         ⌝ }
 {
@@ -171,12 +172,12 @@ fn write_slot(s: &[u8], ws: &mut [u32], t: Tables, slot: usize, value: Cell, cha
     changed
 }
 
-fn give_writes(s: &[u8], ws: &mut [u32], t: Tables, v: Visit, changed: bool) -> bool
+fn give_writes(s: &[u8], ws: &mut [u32], t: Tables, v: RowVisit, changed: bool) -> bool
     requires { ⌜ Looking (now s) (now ws) v ⌝ }
     requires { ⌜ t ≡ tablesOf (now s) ⌝ }
     requires { ⌜ dataFault (moduleOf (now s)) (v .ins) (v .rule .slots) ≡ 0 ⌝ }
     ensures { λ r. ⌜
-        Took (now (s .entry)) (now (ws .entry)) (now (ws .exit)) r
+        FactsAfter (now (s .entry)) (now (ws .entry)) (now (ws .exit)) r
         (absorb (moduleOf (now (s .entry))) (liveIn (now (s .entry)) (now (ws .entry)) changed)
         (written (slotsFrom (v .ins) (v .rule .slots)) (getD (argsIn (now (ws .entry)) v) 0 noCell)))
         ⌝ }
@@ -201,7 +202,7 @@ pub fn give(
     ws: &mut [u32],
     t: Tables,
     ch: Chunk,
-    v: Visit,
+    v: RowVisit,
     entry: bool,
     changed: bool,
 ) -> bool
@@ -210,7 +211,7 @@ pub fn give(
     requires { ⌜ ch ≡ chunkAt (now s) (now ws) (v .chunk) ⌝ }
     requires { ⌜ v .chunk < moduleOf (now s) .signatures ⌝ }
     requires { ⌜ entry ≡ isEntry (visitIn (now s) (now ws) v) ⌝ }
-    requires { ⌜ always (visitIn (now s) (now ws) v) (v .height) ≡ 0 ⌝ }
+    requires { ⌜ always (visitIn (now s) (now ws) v) ≡ 0 ⌝ }
     ensures { λ r. ⌜
         FactsOnly (now (s .entry)) (now (ws .entry)) (now (ws .exit))
         × (liveIn (now (s .entry)) (now (ws .exit)) r

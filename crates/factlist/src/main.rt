@@ -1,5 +1,5 @@
-// Lists the facts of the description on standard input. It is run on document 01's example; factlist_refused and factlist_long are the same
-// program, run on the example returning kind 3 and on an input that is too long.
+// Lists the facts of the description on standard input. It is run on document 01's example; .ci/programs runs it on more inputs, those in
+// examples/factlist.
 fn main() {
     factlisting::run();
 }

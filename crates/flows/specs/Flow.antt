@@ -5,7 +5,8 @@ use mathlib.Core.List.{List, [], _∷_}
 use lib.Dec.{eqb}
 use lib.ListN.{getD}
 use Rattle.masks.specs.declared.Mask.{Mask}
-use Rattle.masks.specs.Mask.{of, has}
+use Rattle.masks.specs.Mask.{has}
+use Rattle.masks.specs.Names.{TUPLE, ARRAY, STRUCT, ENUM}
 use Rattle.widths.specs.declared.Width.{Width}
 use Rattle.widths.specs.declared.Width.the-variants.{Unknown as Wide, Scalar, Body}
 use Rattle.widths.specs.Width.{flat}
@@ -103,10 +104,10 @@ unfoldable pub newFlow : Mask → Width → Owned → Flow
 newFlow m w o =
     record {
       bodies =
-          extentOfKind (has m (of 256)) w
-          ∷ extentOfKind (has m (of 512)) w
-          ∷ extentOfKind (has m (of 1024)) w
-          ∷ extentOfKind (has m (of 2048)) w
+          extentOfKind (has m TUPLE) w
+          ∷ extentOfKind (has m ARRAY) w
+          ∷ extentOfKind (has m STRUCT) w
+          ∷ extentOfKind (has m ENUM) w
           ∷ [];
       owned = o;
       origin = Nowhere;

@@ -40,7 +40,7 @@ pub struct JoinedFlow {
     pub changed: bool,
 }
 
-fn same_bool(a: bool, b: bool) -> bool
+pub fn same_bool(a: bool, b: bool) -> bool
     ensures { λ r. ⌜ r ≡ sameBool a b ⌝ }
 {
     if a { b } else { !b }

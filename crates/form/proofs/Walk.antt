@@ -12,7 +12,7 @@ use Rattle.description.proofs.Walk.{fields-turn, fields-end}
 use Rattle.description.specs.reader.Reading.{after}
 use Rattle.description.proofs.reader.Laws.{after-next}
 use Rattle.definition.specs.declared.Scan.{Scan}
-use Rattle.definition.specs.declared.Step.the-variants.{Go, Stop}
+use Rattle.definition.specs.declared.ScanStep.the-variants.{Go, Stop}
 use Rattle.definition.specs.declared.Form.{Form}
 use Rattle.definition.specs.declared.Form.the-variants.{Refused}
 use Rattle.definition.specs.Form.{fieldStep, finished, onStep, scanFrom, unscanned, formOf}

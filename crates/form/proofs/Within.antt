@@ -13,10 +13,11 @@ use Rattle.answers.specs.declared.Refusal.{Refusal}
 use Rattle.description.specs.Fields.{tagAt, lenAt, nextAt, headerOf, chunkOf, instrOf}
 use Rattle.description.proofs.Walk.{next-after}
 use Rattle.definition.specs.declared.Scan.{Scan}
-use Rattle.definition.specs.declared.Step.{Step}
-use Rattle.definition.specs.declared.Step.the-variants.{Go, Stop}
+use Rattle.definition.specs.declared.ScanStep.{ScanStep}
+use Rattle.definition.specs.declared.ScanStep.the-variants.{Go, Stop}
 use Rattle.definition.specs.Module.{signedParams}
-use Rattle.definition.specs.Form.{nowhere, headerFault, chunkFault, instrFault, siteFault, tableFault, orStop, inField, pastHeader, headerStep, pastChunk, chunkStep, pastInstr, instrStep, placed, siteStep, soFar, tableStep, fieldStep}
+use Rattle.answers.specs.Answers.{nowhere, inField}
+use Rattle.definition.specs.Form.{headerFault, chunkFault, instrFault, siteFault, tableFault, orStop, pastHeader, headerStep, pastChunk, chunkStep, pastInstr, instrStep, placed, siteStep, soFar, tableStep, fieldStep}
 use Rattle.form.specs.late_checks.Counted.{counted}
 use Rattle.form.specs.code_steps.Bounds.{Bounded}
 use Rattle.form.proofs.code_steps.Bounds.{so-far-le}
@@ -26,7 +27,7 @@ pub record After (s : List ℕ) (p : ℕ) (t u : Scan) : Type 0 where
   pub bound : Bounded u (nextAt s p)
   pub count : (ps : List ℕ) → counted s (t .seen) (t .instrs) (p ∷ ps) ≡ counted s (u .seen) (u .instrs) ps
 
-abbrev Within : List ℕ → ℕ → Scan → Step → Type 0
+abbrev Within : List ℕ → ℕ → Scan → ScanStep → Type 0
 Within s p t (Go u) = After s p t u
 Within s p t (Stop r) = Unit
 
@@ -53,7 +54,7 @@ module _ (s : List ℕ) (p : ℕ) (t : Scan) (b : Bounded t p) where
       go true g = g refl
       go false g = tt
 
-  cond-within : (x : Bool) (a c : Step) → (x ≡ true → Within s p t a) → (x ≡ false → Within s p t c) → Within s p t (cond x a c)
+  cond-within : (x : Bool) (a c : ScanStep) → (x ≡ true → Within s p t a) → (x ≡ false → Within s p t c) → Within s p t (cond x a c)
   cond-within true a c f g = f refl
   cond-within false a c f g = g refl
 
@@ -185,12 +186,12 @@ module _ (s : List ℕ) (p : ℕ) (t : Scan) (b : Bounded t p) where
   unfolding fieldStep
   step-within =
       let g : ℕ = tagAt s p in
-      let stop : Step = Stop (nowhere 1 0) in
-      let x5 : Step = cond (ltb 4 g && ltb g 9) (tableStep s p g t) stop in
-      let x4 : Step = cond (eqb g 4) (siteStep s p t) x5 in
-      let x3 : Step = cond (eqb g 3) (instrStep s p t) x4 in
-      let x2 : Step = cond (eqb g 2) (chunkStep s p t) x3 in
-      let x1 : Step = cond (eqb g 1) (headerStep s p t) x2 in
+      let stop : ScanStep = Stop (nowhere 1 0) in
+      let x5 : ScanStep = cond (ltb 4 g && ltb g 9) (tableStep s p g t) stop in
+      let x4 : ScanStep = cond (eqb g 4) (siteStep s p t) x5 in
+      let x3 : ScanStep = cond (eqb g 3) (instrStep s p t) x4 in
+      let x2 : ScanStep = cond (eqb g 2) (chunkStep s p t) x3 in
+      let x1 : ScanStep = cond (eqb g 1) (headerStep s p t) x2 in
       cond-within (ltb (length s) (nextAt s p)) stop x1 (λ e. tt)
       (λ e0. cond-within (eqb g 1) (headerStep s p t) x2 (λ e. header-within (eqb-true g 1 e))
       (λ e1. cond-within (eqb g 2) (chunkStep s p t) x3 (λ e. chunk-within (eqb-true g 2 e))
@@ -208,5 +209,5 @@ unfolding fieldStep
 go-inside s p t u e = go (ltb (length s) (nextAt s p)) refl
   where
     go : (x : Bool) → ltb (length s) (nextAt s p) ≡ x → nextAt s p ≤ length s
-    go true h = let f : _≡_ {A = Step} (Stop (nowhere 1 0)) (Go u) = rw h at e in let z : _≡_ {A = ℕ} 0 1 = cc in absurd (omega arith)
+    go true h = let f : _≡_ {A = ScanStep} (Stop (nowhere 1 0)) (Go u) = rw h at e in let z : _≡_ {A = ℕ} 0 1 = cc in absurd (omega arith)
     go false h = ltb-false (length s) (nextAt s p) h

@@ -4,7 +4,7 @@ use crate::code_steps::instr_step;
 use crate::code_steps::or_stop;
 use answers::nowhere;
 use definition::Scan;
-use definition::Step;
+use definition::ScanStep;
 use description::header_at;
 use description::len_at;
 use description::next_at;
@@ -17,7 +17,7 @@ ghost use Prim.Native.Nat.{_<_, _^_};
 ghost use Rattle.definition.specs.Form.{headerStep, placed, siteStep, soFar, tableStep, fieldStep};
 ghost use Rattle.form.specs.code_steps.Bounds.{Bounded};
 
-fn header_step(s: &[u8], p: usize, scan: Scan) -> Step
+fn header_step(s: &[u8], p: usize, scan: Scan) -> ScanStep
     requires { ⌜ p < 2 ^ 61 ⌝ }
     ensures { λ r. ⌜ r ≡ headerStep (now (s .entry)) p scan ⌝ }
 {
@@ -45,21 +45,13 @@ fn header_step(s: &[u8], p: usize, scan: Scan) -> Step
 fn placed(tag: u8, count: u32, scan: Scan) -> Scan
     ensures { λ r. ⌜ r ≡ placed tag count scan ⌝ }
 {
-    Scan {
-        place: tag,
-        chunks: scan.chunks,
-        signatures: scan.signatures,
-        layout: scan.layout,
-        seen: scan.seen,
-        locals: scan.locals,
-        stack: scan.stack,
-        instrs: scan.instrs,
-        count,
-        cells: scan.cells,
-    }
+    let mut next = scan;
+    next.place = tag;
+    next.count = count;
+    next
 }
 
-fn site_step(s: &[u8], p: usize, scan: Scan) -> Step
+fn site_step(s: &[u8], p: usize, scan: Scan) -> ScanStep
     requires { ⌜ p < 2 ^ 61 ⌝ }
     ensures { λ r. ⌜ r ≡ siteStep (now (s .entry)) p scan ⌝ }
 {
@@ -78,7 +70,7 @@ fn so_far(scan: Scan, tag: u8) -> u32
 }
 
 // Tags 5 to 8.
-fn table_step(s: &[u8], p: usize, tag: u8, scan: Scan) -> Step
+fn table_step(s: &[u8], p: usize, tag: u8, scan: Scan) -> ScanStep
     requires { ⌜ (p < 2 ^ 61) × Bounded scan (2 ^ 31) ⌝ }
     ensures { λ r. ⌜ r ≡ tableStep (now (s .entry)) p tag scan ⌝ }
 {
@@ -95,12 +87,12 @@ fn table_step(s: &[u8], p: usize, tag: u8, scan: Scan) -> Step
     or_stop(n, nowhere(n, 0), placed(tag, more, scan))
 }
 
-pub fn field_step(s: &[u8], p: usize, scan: Scan) -> Step
+pub fn field_step(s: &[u8], p: usize, scan: Scan) -> ScanStep
     requires { ⌜ (p < 2 ^ 61) × Bounded scan (2 ^ 31) ⌝ }
     ensures { λ r. ⌜ r ≡ fieldStep (now (s .entry)) p scan ⌝ }
 {
     if s.len() < next_at(s, p) {
-        return Step::Stop(nowhere(1, 0));
+        return ScanStep::Stop(nowhere(1, 0));
     }
     let tag = tag_at(s, p);
     if tag == 1 {
@@ -118,5 +110,5 @@ pub fn field_step(s: &[u8], p: usize, scan: Scan) -> Step
     if (4 < tag) & (tag < 9) {
         return table_step(s, p, tag, scan);
     }
-    Step::Stop(nowhere(1, 0))
+    ScanStep::Stop(nowhere(1, 0))
 }

@@ -1,22 +1,26 @@
 // The late looks: a call taking more than its callee's parameters, a `Yield` without site.
 use answers::Refusal;
+use answers::in_field;
 use answers::nowhere;
+use definition::params_in;
 use description::has_site;
 use description::instr_at;
 use description::next_at;
 use description::tag_at;
-use form_rules::params_in;
+use ops::CALL;
+use ops::YIELD;
 ghost use mathlib.Core.Path.{_≡_};
 ghost use mathlib.Core.Bool.{true};
 ghost use Prim.Native.Nat.{_-_, _<_, _≤_, _^_};
 ghost use lib.ListN.{length, getD};
 ghost use Rattle.description.specs.Fields.{fieldsFrom};
+ghost use Rattle.definition.specs.Bounds.{mostBytes, mostChunks};
 ghost use Rattle.definition.specs.Form.{lateFault, lateLook};
 ghost use Rattle.form.specs.late_checks.Counted.{counted, paramList, paramTable};
 
 // The parameter shapes of each chunk with a signature.
 fn parameters(s: &[u8], signatures: u16) -> [u8; 64]
-    requires { ⌜ length (now s) ≤ 1048576 ⌝ }
+    requires { ⌜ length (now s) ≤ mostBytes ⌝ }
     ensures { λ r. ⌜ r ≡ paramTable (now (s .entry)) signatures ⌝ }
 {
     let mut params = [0u8; 64];
@@ -53,7 +57,7 @@ fn faulty(s: &[u8], p: usize, params: [u8; 64]) -> bool
     let i = instr_at(s, p);
     let few = params_for(params, i.a) < i.taken;
     let site = has_site(s, p);
-    ((i.op == 30) & few) | ((i.op == 32) & !site)
+    ((i.op == CALL) & few) | ((i.op == YIELD) & !site)
 }
 
 // The number of the last chunk of so many.
@@ -65,7 +69,7 @@ pub fn before(seen: u16) -> u16
 
 // The first fault by chunk and instruction, or number 0.
 pub fn late_look(s: &[u8], signatures: u16) -> Refusal
-    requires { ⌜ (length (now s) ≤ 1048576) × (counted (now s) 0 0 (fieldsFrom (now s) 0) ≡ true) × (signatures ≤ 64) ⌝ }
+    requires { ⌜ (length (now s) ≤ mostBytes) × (counted (now s) 0 0 (fieldsFrom (now s) 0) ≡ true) × (signatures ≤ mostChunks) ⌝ }
     ensures { λ r. ⌜ r ≡ lateLook (now (s .entry)) (paramList (now (s .entry)) signatures) 0 0 (fieldsFrom (now (s .entry)) 0) ⌝ }
 {
     let params = parameters(s, signatures);
@@ -80,12 +84,7 @@ pub fn late_look(s: &[u8], signatures: u16) -> Refusal
             instr = 0;
         } else if tag == 3 {
             if faulty(s, at, params) {
-                return Refusal {
-                    number: 3,
-                    chunk: before(chunk),
-                    instruction: instr,
-                    steps: 0,
-                };
+                return in_field(3, before(chunk), instr);
             }
             instr += 1;
         }

@@ -1,5 +1,5 @@
-// The form checks: refusals 1 to 5, and the number of workspace words. One walk over the fields, in byte order; then the two late looks.
-// Nothing is written. The scan takes a reader; every other caller has check_form.
+// The form checks: refusals 1 to 4 and W, then 5 (`room`). One walk over the fields, in byte order (`field_steps`, `code_steps`); then the two
+// late looks (`late_checks`). Nothing is written. The scan takes a reader; every other caller has check_form.
 mod code_steps;
 mod field_steps;
 mod late_checks;
@@ -9,7 +9,7 @@ use answers::Refusal;
 use answers::nowhere;
 use definition::Form;
 use definition::Scan;
-use definition::Step;
+use definition::ScanStep;
 use description::reader::Reader;
 use description::reader::place_after;
 use description::reader::start;
@@ -21,10 +21,14 @@ ghost use mathlib.Core.Bool.{true};
 ghost use Prim.Native.Nat.{_≤_, _^_};
 ghost use lib.ListN.{length};
 ghost use Rattle.description.specs.Fields.{fieldsFrom};
+ghost use Rattle.definition.specs.Bounds.{mostBytes};
 ghost use Rattle.definition.specs.Form.{afterLook, finished, formOf};
 ghost use Rattle.description.specs.reader.Reading.{left};
 ghost use Rattle.form.specs.late_checks.Counted.{counted};
 ghost use Rattle.form.specs.code_steps.Bounds.{Bounded};
+
+// Document 01's longest description.
+const MOST_BYTES: usize = 1048576;
 
 fn after_look(late: Refusal, words: u64) -> Form
     ensures { λ r. ⌜ r ≡ afterLook late words ⌝ }
@@ -38,7 +42,7 @@ fn after_look(late: Refusal, words: u64) -> Form
 // After the last field: no header or a chunk missing is 1; then the late looks.
 fn finish(s: &[u8], scan: Scan) -> Form
     requires { ⌜
-        (length (now s) ≤ 1048576) × Bounded scan (2 ^ 31)
+        (length (now s) ≤ mostBytes) × Bounded scan (2 ^ 31)
         × (counted (now s) 0 0 (fieldsFrom (now s) 0) ≡ true)
         ⌝ }
     ensures { λ r. ⌜ r ≡ finished (now (s .entry)) scan ⌝ }
@@ -54,7 +58,7 @@ fn finish(s: &[u8], scan: Scan) -> Form
 fn read_all(s: &[u8]) -> Form
     ensures { λ r. ⌜ r ≡ formOf (now (s .entry)) ⌝ }
 {
-    if 1048576 < s.len() {
+    if MOST_BYTES < s.len() {
         return Form::Refused(nowhere(2, 0));
     }
     let mut at: usize = 0;
@@ -72,10 +76,10 @@ fn read_all(s: &[u8]) -> Form
     };
     while at < s.len() {
         match field_step(s, at, scan) {
-            Step::Stop(r) => {
+            ScanStep::Stop(r) => {
                 return Form::Refused(r);
             }
-            Step::Go(next) => {
+            ScanStep::Go(next) => {
                 scan = next;
                 at = place_after(s, at);
             }

@@ -10,9 +10,9 @@ use lib.ListN.{length, getD, length-map, List·getD-eq-default}
 use borrow.Author.Tests.{eqb-true, ltb-true, ltb-false}
 use Rattle.description.specs.Fields.{tagAt, nextAt, fieldsF, fieldsFrom, ofTag, headerOf}
 use Rattle.definition.specs.Module.{Chunk, Line, lineOf, codeAfter, chunkFrom, chunksFrom, moduleFrom, moduleOf}
-use Rattle.definition.specs.Leaves.{noLine}
+use Rattle.definition.specs.Leaves.{noLine, lineAt}
 use Rattle.form_laws.proofs.Places.{Placed, codePlaces, placesFrom, places, chunksAt, noPlace}
-use Rattle.form_laws.specs.Good.{noChunk, chunkNo, lineNo}
+use Rattle.form_laws.specs.Good.{noChunk, chunkNo}
 use Rattle.form_laws.proofs.Each.{suc-out, All, all-at, map-at}
 
 pub code-placed : (s ps : List ℕ) → codeAfter s ps ≡ map (lineOf s) (codePlaces s ps)
@@ -85,8 +85,8 @@ pub code-count : (s : List ℕ) (n : ℕ) → length (chunkNo (moduleOf s) n .co
 code-count s n = rw (code-of s n) (length-map (getD (places s) n noPlace .code) (lineOf s))
 
 pub line-placed : (s : List ℕ) (n i : ℕ) → i < length (chunkNo (moduleOf s) n .code)
-    → lineNo (chunkNo (moduleOf s) n) i ≡ lineOf s (getD (getD (places s) n noPlace .code) i 0)
-unfolding lineNo
+    → lineAt (chunkNo (moduleOf s) n) i ≡ lineOf s (getD (getD (places s) n noPlace .code) i 0)
+unfolding lineAt
 line-placed s n i h = rw (code-of s n) (map-at (lineOf s) (getD (places s) n noPlace .code) i 0 noLine (omega (arith, code-count s n)))
 
 -- ---- the places are places of fields

@@ -15,6 +15,7 @@ use Rattle.masks.proofs.Both.{or-left, or-right}
 use Rattle.form_laws.specs.Good.{noChunk, chunkNo}
 use Rattle.form_laws.proofs.Tests.{and-off}
 use Rattle.form_laws.proofs.Each.{All, row-length}
+use Rattle.ops.specs.Numbers.{opCall, opYield}
 
 -- every instruction field is looked at
 pub late-all : (s params : List ℕ) (c i : ℕ) (ps : List ℕ) → lateLook s params c i ps .number ≡ 0
@@ -64,8 +65,8 @@ params-are s signatures n left (p ∷ ps) a e =
 
 -- ---- an instruction that both looks passed
 pub record Late (m : Module) (x : Line) : Type 0 where
-  pub call : x .instr .op ≡ 30 → x .instr .taken ≤ length (chunkNo m (x .instr .a) .params)
-  pub yields : x .instr .op ≡ 32 → isSite (x .site) ≡ true
+  pub call : x .instr .op ≡ opCall → x .instr .taken ≤ length (chunkNo m (x .instr .a) .params)
+  pub yields : x .instr .op ≡ opYield → isSite (x .site) ≡ true
 
 has-site : (s : List ℕ) (p : ℕ) → hasSite s p ≡ true → isSite (siteOf s p) ≡ true
 unfolding siteOf isSite
@@ -75,8 +76,8 @@ pub late-line : (m : Module) (s params : List ℕ) (p : ℕ) → ((a : ℕ) → 
 unfolding lateFault lineOf
 late-line m s params p k h =
     let i = instrOf s p in
-    let calls = eqb (i .op) 30 && ltb (getD params (i .a) 0) (i .taken) in
+    let calls = eqb (i .op) opCall && ltb (getD params (i .a) 0) (i .taken) in
     record {
-      call = λ e. omega (arith, k (i .a), ltb-false (getD params (i .a) 0) (i .taken) (and-off (eqb (i .op) 30) _ (or-left calls _ h) (eq-eqb (i .op) 30 e)));
-      yields = λ e. has-site s p (not-false (hasSite s p) (and-off (eqb (i .op) 32) _ (or-right calls _ h) (eq-eqb (i .op) 32 e)));
+      call = λ e. omega (arith, k (i .a), ltb-false (getD params (i .a) 0) (i .taken) (and-off (eqb (i .op) opCall) _ (or-left calls _ h) (eq-eqb (i .op) opCall e)));
+      yields = λ e. has-site s p (not-false (hasSite s p) (and-off (eqb (i .op) opYield) _ (or-right calls _ h) (eq-eqb (i .op) opYield e)));
     }

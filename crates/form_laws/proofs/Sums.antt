@@ -12,7 +12,8 @@ use Rattle.description.specs.Fields.{nextAt, fieldsFrom, ofTag, chunkOf, paramO
 use Rattle.definition.specs.declared.Scan.{Scan}
 use Rattle.definition.specs.declared.Form.the-variants.{Fine, Refused}
 use Rattle.definition.specs.Module.{Line, codeAfter, signedParams, chunkFrom, chunksFrom}
-use Rattle.definition.specs.Form.{nowhere, parameters, lateLook, afterLook, finished}
+use Rattle.answers.specs.Answers.{nowhere}
+use Rattle.definition.specs.Form.{parameters, lateLook, afterLook, finished}
 use Rattle.masks.proofs.Both.{never, or-right}
 use Rattle.form_laws.specs.Good.{chunkCells, cellsIn}
 use Rattle.form_laws.proofs.Each.{row-length}

@@ -12,9 +12,9 @@ use Rattle.description.specs.Fields.{tagAt, nextAt, fieldsFrom, ofTag, headerOf
 use Rattle.definition.specs.declared.Scan.{Scan}
 use Rattle.definition.specs.declared.Form.the-variants.{Fine}
 use Rattle.definition.specs.Module.{Module, Chunk, lineOf, signedParams, codeAfter, chunkFrom, chunksFrom, moduleFrom, moduleOf}
-use Rattle.definition.specs.Leaves.{noLine}
+use Rattle.definition.specs.Leaves.{noLine, lineAt}
 use Rattle.definition.specs.Form.{pastChunk, formOf}
-use Rattle.form_laws.specs.Good.{noChunk, chunkNo, lineNo, wordsOf, LineGood, ChunkGood, Good}
+use Rattle.form_laws.specs.Good.{noChunk, chunkNo, wordsOf, LineGood, ChunkGood, Good}
 use Rattle.form_laws.proofs.Each.{All, all-at, all-map, Each, each-at, row-length}
 use Rattle.form_laws.proofs.Faults.{Fits, tableLen, tableMost}
 use Rattle.form_laws.proofs.Walk.{paramsThen, AtChunk, Walk, end, chunk, instr, other, Starts, starts}
@@ -60,7 +60,7 @@ module _ (s : List ℕ) (w : ℕ) (m : Module) where
 
   chunk-good : {p : ℕ} {ps : List ℕ} {t : Scan} → AtChunk s p t → Walk s w (nextAt s p) ps (pastChunk (chunkOf s p) (paramsThen s p t) t) → m .signatures ≡ t .signatures → LateIn s m ps
       → ChunkGood m (t .seen) (chunkFrom s (t .seen) p (ltb (t .seen) (t .signatures)) (codeAfter s ps))
-  unfolding chunkFrom lineNo signedParams
+  unfolding chunkFrom lineAt signedParams
   chunk-good {p} {ps} {t} a k g l =
       let c = chunkFrom s (t .seen) p (ltb (t .seen) (t .signatures)) (codeAfter s ps) in
       let params = chunk-params s (t .seen) p (ltb (t .seen) (t .signatures)) (codeAfter s ps) in

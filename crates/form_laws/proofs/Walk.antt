@@ -11,12 +11,13 @@ use Rattle.masks.proofs.Both.{both, never}
 use Rattle.answers.specs.declared.Refusal.{Refusal}
 use Rattle.description.specs.Fields.{tagAt, lenAt, nextAt, fieldsF, fieldsFrom, headerOf, chunkOf, instrOf}
 use Rattle.definition.specs.declared.Scan.{Scan}
-use Rattle.definition.specs.declared.Step.{Step}
-use Rattle.definition.specs.declared.Step.the-variants.{Go, Stop}
+use Rattle.definition.specs.declared.ScanStep.{ScanStep}
+use Rattle.definition.specs.declared.ScanStep.the-variants.{Go, Stop}
 use Rattle.definition.specs.declared.Form.{Form}
 use Rattle.definition.specs.declared.Form.the-variants.{Fine, Refused}
 use Rattle.definition.specs.Module.{signedParams}
-use Rattle.definition.specs.Form.{nowhere, headerFault, chunkFault, instrFault, siteFault, tableFault, orStop, inField, pastHeader, headerStep, pastChunk, chunkStep, pastInstr, instrStep, siteStep, soFar, placed, tableStep, fieldStep, finished, onStep, scanFrom, unscanned, formOf}
+use Rattle.answers.specs.Answers.{nowhere, inField}
+use Rattle.definition.specs.Form.{headerFault, chunkFault, instrFault, siteFault, tableFault, orStop, pastHeader, headerStep, pastChunk, chunkStep, pastInstr, instrStep, siteStep, soFar, placed, tableStep, fieldStep, finished, onStep, scanFrom, unscanned, formOf}
 use Rattle.form_laws.proofs.Faults.{HeaderFine, header-fine, ChunkFine, chunk-fine, InstrFine, instr-fine, site-due, tableLen, tableMost, table-fine}
 
 abbrev pub paramsThen : List ℕ → ℕ → Scan → ℕ
@@ -70,7 +71,7 @@ went {C} n r u k w h f = go (eqb n 0) refl h
 
 module _ (s : List ℕ) (w p : ℕ) (ps : List ℕ) (t : Scan) (l : 0 < t .place) (fits : nextAt s p ≤ length s)
     (below : (u : Scan) → 0 < u .place → scanFrom s ps u ≡ Fine w → Walk s w (nextAt s p) ps u) where
-  abbrev Then : Step → Type 0
+  abbrev Then : ScanStep → Type 0
   Then f = onStep f (λ u. scanFrom s ps u) ≡ Fine w
 
   no-header : Then (headerStep s p t) → Walk s w p (p ∷ ps) t

@@ -8,10 +8,12 @@ use lib.ListN.{length, getD}
 use Rattle.widths.specs.declared.Shape.{Shape}
 use Rattle.description.specs.Fields.{tagAt, nextAt, headerOf, fieldsFrom, ofTag}
 use Rattle.definition.specs.Module.{Module, Chunk, Line, moduleOf}
+use Rattle.definition.specs.Bounds.{mostBytes, mostFloat, mostChunks, mostSlots, mostLocals, mostStack, mostArity, mostTags, mostParams, mostInstrs, mostTaken, mostGiven, mostNatives, mostFields}
 use Rattle.definition.specs.Form.{fitOf, local, callee, senseless, tooLarge}
-use Rattle.definition.specs.Leaves.{noLine}
+use Rattle.definition.specs.Leaves.{lineAt}
 use Rattle.definition.specs.Start.{isSite}
 use Rattle.form_laws.specs.Order.{ordered}
+use Rattle.ops.specs.Numbers.{opCall, opYield}
 
 -- the shape and the chunk that are not there
 abbrev pub noShape : Shape
@@ -35,9 +37,6 @@ noChunk =
 unfoldable pub chunkNo : Module → ℕ → Chunk
 chunkNo m n = getD (m .chunks) n noChunk
 
-unfoldable pub lineNo : Chunk → ℕ → Line
-lineNo c i = getD (c .code) i noLine
-
 -- ---- W
 abbrev pub rowCells : Chunk → ℕ
 rowCells c = c .locals + c .stack + 6
@@ -55,8 +54,8 @@ wordsOf m = 16 * (cellsIn (m .chunks) + m .slots + 4)
 -- ---- an instruction that fits its module and chunk
 pub record LineGood (m : Module) (c : Chunk) (x : Line) : Type 0 where
   pub op : x .instr .op ≤ 65
-  pub taken : x .instr .taken ≤ 64
-  pub given : x .instr .given ≤ 4
+  pub taken : x .instr .taken ≤ mostTaken
+  pub given : x .instr .given ≤ mostGiven
   pub takenLeast : fitOf (x .instr .op) .takenLeast ≤ x .instr .taken
   pub takenMost : x .instr .taken ≤ fitOf (x .instr .op) .takenMost
   pub givenLeast : fitOf (x .instr .op) .givenLeast ≤ x .instr .given
@@ -66,39 +65,39 @@ pub record LineGood (m : Module) (c : Chunk) (x : Line) : Type 0 where
   pub local : fitOf (x .instr .op) .meaning ≡ local → x .instr .a < c .locals
   pub callee : fitOf (x .instr .op) .meaning ≡ callee → x .instr .a < m .signatures
   -- the late looks
-  pub call : x .instr .op ≡ 30 → x .instr .taken ≤ length (chunkNo m (x .instr .a) .params)
-  pub yields : x .instr .op ≡ 32 → isSite (x .site) ≡ true
+  pub call : x .instr .op ≡ opCall → x .instr .taken ≤ length (chunkNo m (x .instr .a) .params)
+  pub yields : x .instr .op ≡ opYield → isSite (x .site) ≡ true
 
 pub record ChunkGood (m : Module) (n : ℕ) (c : Chunk) : Type 0 where
   pub number : c .number ≡ n
   pub block : c .block ≤ 2
-  pub locals : c .locals ≤ 256
-  pub stack : c .stack ≤ 64
-  pub arity : c .arity ≤ 16
-  pub tags : length (c .tags) ≤ 16
-  pub params : length (c .params) ≤ 16
+  pub locals : c .locals ≤ mostLocals
+  pub stack : c .stack ≤ mostStack
+  pub arity : c .arity ≤ mostArity
+  pub tags : length (c .tags) ≤ mostTags
+  pub params : length (c .params) ≤ mostParams
   pub inLocals : length (c .params) ≤ c .locals
   pub unsigned : m .signatures ≤ n → length (c .params) ≡ 0
-  pub code : length (c .code) ≤ 4096
-  pub lines : (i : ℕ) → i < length (c .code) → LineGood m c (lineNo c i)
+  pub code : length (c .code) ≤ mostInstrs
+  pub lines : (i : ℕ) → i < length (c .code) → LineGood m c (lineAt c i)
 
 pub record Good (s : List ℕ) (w : ℕ) : Type 0 where
-  pub long : length s ≤ 1048576
+  pub long : length s ≤ mostBytes
   -- the header stands first
   pub some-bytes : 0 < length s
   pub header : tagAt s 0 ≡ 1
   pub next : nextAt s 0 ≡ 18
   -- each field stands where the form check wants it
   pub order : ordered s 0 (fieldsFrom s 0) ≡ true
-  pub float : headerOf s 0 .float ≤ 31
+  pub float : headerOf s 0 .float ≤ mostFloat
   pub chunks : length (moduleOf s .chunks) ≡ headerOf s 0 .chunks
-  pub chunksMost : length (moduleOf s .chunks) ≤ 64
+  pub chunksMost : length (moduleOf s .chunks) ≤ mostChunks
   pub signatures : moduleOf s .signatures ≤ length (moduleOf s .chunks)
   pub entry : moduleOf s .entry < moduleOf s .signatures
-  pub slots : moduleOf s .slots ≤ 1024
-  pub natives : length (moduleOf s .natives) ≤ 256
-  pub shared : length (moduleOf s .shared) ≤ 1024
-  pub inits : length (moduleOf s .inits) ≤ 1024
+  pub slots : moduleOf s .slots ≤ mostSlots
+  pub natives : length (moduleOf s .natives) ≤ mostNatives
+  pub shared : length (moduleOf s .shared) ≤ mostFields
+  pub inits : length (moduleOf s .inits) ≤ mostFields
   pub words : w ≡ wordsOf (moduleOf s)
   pub small : w < 4294967296
   pub eachChunk : (n : ℕ) → n < length (moduleOf s .chunks) → ChunkGood (moduleOf s) n (chunkNo (moduleOf s) n)

@@ -1,1 +1,1 @@
-// What good form says of a description: see specs/.
+// No code. What good form says of a description: stated in specs/Good.antt, proved in proofs/.

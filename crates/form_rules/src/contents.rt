@@ -5,6 +5,7 @@ use description::params_of;
 use description::shape_at;
 use description::tags_at;
 use le::u8_at;
+use le::wide_size;
 ghost use mathlib.Core.Path.{_≡_};
 ghost use mathlib.Core.Bool.{_&&_};
 ghost use Prim.Native.Nat.{_<_, _≤_, _^_};
@@ -44,21 +45,15 @@ fn shapes_fine(s: &[u8], from: usize, count: usize) -> bool
     fine
 }
 
-fn wide(x: u8) -> usize
-    ensures { λ r. ⌜ (r ≡ x) × (r < 256) ⌝ }
-{
-    x as usize
-}
-
 // The length of the chunk field at p, from its counts.
 fn chunk_len(s: &[u8], p: usize, signed: bool, tags: u8) -> usize
     requires { ⌜ p < 2 ^ 61 ⌝ }
     ensures { λ r. ⌜ r ≡ chunkLen (now (s .entry)) p signed tags ⌝ }
 {
     if signed {
-        return 16 + wide(tags) + 7 * wide(params_of(s, p));
+        return 16 + wide_size(tags) + 7 * wide_size(params_of(s, p));
     }
-    8 + wide(tags)
+    8 + wide_size(tags)
 }
 
 fn signature_fine(s: &[u8], p: usize, signed: bool) -> bool
@@ -66,7 +61,7 @@ fn signature_fine(s: &[u8], p: usize, signed: bool) -> bool
     ensures { λ r. ⌜ r ≡ signatureFine (now (s .entry)) p signed ⌝ }
 {
     if signed {
-        return shapes_fine(s, params_at(s, p) + 1, wide(params_of(s, p)) + 1);
+        return shapes_fine(s, params_at(s, p) + 1, wide_size(params_of(s, p)) + 1);
     }
     true
 }
@@ -87,7 +82,7 @@ pub fn contents_fine(s: &[u8], p: usize, len: u16, signed: bool, tags: u8) -> bo
         ⌝ }
 {
     let whole = same_length(chunk_len(s, p, signed, tags), len);
-    let tagged = tags_fine(s, tags_at(p), wide(tags));
+    let tagged = tags_fine(s, tags_at(p), wide_size(tags));
     let shaped = signature_fine(s, p, signed);
     whole & tagged & shaped
 }

@@ -11,6 +11,7 @@ ghost use mathlib.Core.Path.{_≡_};
 ghost use mathlib.Core.Bool.{_||_};
 ghost use Prim.Native.Nat.{_<_};
 ghost use lib.Dec.{ltb, leb};
+ghost use Rattle.definition.specs.Bounds.{mostInstrs, mostTaken, mostGiven};
 ghost use Rattle.definition.specs.Form.{lowest, senseless, tooLarge, misplaced, unfitting, fitOf, instrFault};
 
 // What the operands of an instruction mean.
@@ -36,6 +37,21 @@ const IMMEDIATE: u8 = 9;
 
 const NATIVE: u8 = 10;
 
+// Document 01's largest values of an instruction: how many a chunk has, taken, given, and its operands.
+const MOST_INSTRS: u32 = 4096;
+
+const MOST_TAKEN: u8 = 64;
+
+const MOST_GIVEN: u8 = 4;
+
+const MOST_OPERAND: u32 = 65535;
+
+const MOST_IMMEDIATE: u32 = 255;
+
+const MOST_SCALAR_KIND: u32 = 255;
+
+const MOST_COMPOSITE_KIND: u32 = 3;
+
 // Operands that have no meaning: not 0 where nothing is read, or the place of no case.
 fn is_senseless(m: u8, i: Instr) -> bool
     ensures { λ r. ⌜ r ≡ senseless m i ⌝ }
@@ -59,10 +75,12 @@ fn is_senseless(m: u8, i: Instr) -> bool
 fn is_too_large(m: u8, i: Instr) -> bool
     ensures { λ r. ⌜ r ≡ tooLarge m i ⌝ }
 {
-    (((m == LOCAL) | (m == TARGET) | (m == CALLEE) | (m == NATIVE)) & (65535 < i.a))
-        | ((m == IMMEDIATE) & (255 < i.a))
-        | ((m == COMPOSITE) & ((3 < i.b) | (65535 < i.c)))
-        | ((m == PART) & (((i.a == 0) & (255 < i.b)) | ((i.a == 1) & ((3 < i.b) | (65535 < i.c)))))
+    (((m == LOCAL) | (m == TARGET) | (m == CALLEE) | (m == NATIVE)) & (MOST_OPERAND < i.a))
+        | ((m == IMMEDIATE) & (MOST_IMMEDIATE < i.a))
+        | ((m == COMPOSITE) & ((MOST_COMPOSITE_KIND < i.b) | (MOST_OPERAND < i.c)))
+        | ((m == PART)
+            & (((i.a == 0) & (MOST_SCALAR_KIND < i.b))
+                | ((i.a == 1) & ((MOST_COMPOSITE_KIND < i.b) | (MOST_OPERAND < i.c)))))
 }
 
 fn reaches(limit: u16, a: u32) -> bool
@@ -97,7 +115,7 @@ fn known_fault(op: usize, i: Instr, scan: Scan) -> u8
     requires { ⌜ op < 66 ⌝ }
     ensures { λ r. ⌜
         r ≡ lowest (senseless (fitOf op .meaning) i)
-        (ltb 4095 (scan .instrs) || ltb 64 (i .taken) || ltb 4 (i .given) || tooLarge (fitOf op .meaning) i)
+        (leb mostInstrs (scan .instrs) || ltb mostTaken (i .taken) || ltb mostGiven (i .given) || tooLarge (fitOf op .meaning) i)
         (misplaced (fitOf op .meaning) i scan)
         (unfitting (fitOf op) i)
         ⌝ }
@@ -109,7 +127,7 @@ fn known_fault(op: usize, i: Instr, scan: Scan) -> u8
     let four = is_unfit(op, i);
     low(
         one,
-        (4095 < scan.instrs) | (64 < i.taken) | (4 < i.given) | large,
+        (MOST_INSTRS <= scan.instrs) | (MOST_TAKEN < i.taken) | (MOST_GIVEN < i.given) | large,
         three,
         four,
     )

@@ -6,7 +6,6 @@ mod instrs;
 mod tables;
 
 pub use chunks::chunk_fault;
-pub use chunks::params_in;
 use description::Header;
 use description::shape_at;
 pub use instrs::instr_fault;
@@ -15,6 +14,13 @@ use widths::Shape;
 ghost use mathlib.Core.Path.{_≡_};
 ghost use Prim.Native.Nat.{_<_, _^_};
 ghost use Rattle.definition.specs.Form.{lowest, headerFault, shapeFine, siteFault};
+
+// Document 01's largest values of the header.
+const MOST_FLOAT: u8 = 31;
+
+const MOST_CHUNKS: u16 = 64;
+
+const MOST_SLOTS: u16 = 1024;
 
 // The lowest of the numbers whose fault is there, or 0.
 pub fn low(one: bool, two: bool, three: bool, four: bool) -> u8
@@ -40,7 +46,10 @@ pub fn header_fault(due: bool, len: u16, h: Header) -> u8
 {
     low(
         !due | (len != 15) | (1 < h.layout) | (1 < h.owns) | ((h.layout == 0) & (h.slots != 0)),
-        (31 < h.float) | (64 < h.chunks) | (h.chunks < h.signatures) | (1024 < h.slots),
+        (MOST_FLOAT < h.float)
+            | (MOST_CHUNKS < h.chunks)
+            | (h.chunks < h.signatures)
+            | (MOST_SLOTS < h.slots),
         h.signatures <= h.entry,
         false,
     )

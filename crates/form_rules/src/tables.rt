@@ -7,6 +7,11 @@ ghost use mathlib.Core.Path.{_≡_};
 ghost use Prim.Native.Nat.{_<_, _^_};
 ghost use Rattle.definition.specs.Form.{tableFault};
 
+// Document 01's largest counts: natives, and fields of each of the tags 6, 7 and 8.
+const MOST_NATIVES: u32 = 256;
+
+const MOST_FIELDS: u32 = 1024;
+
 // A field of tags 5 to 8, after so many of its tag.
 pub fn table_fault(s: &[u8], p: usize, tag: u8, due: bool, len: u16, count: u32) -> u8
     requires { ⌜ p < 2 ^ 61 ⌝ }
@@ -17,22 +22,22 @@ pub fn table_fault(s: &[u8], p: usize, tag: u8, due: bool, len: u16, count: u32)
         let flag = u8_at(s, p + 10);
         return low(
             !due | (len != 8) | !shaped | (1 < flag),
-            255 < count,
+            MOST_NATIVES <= count,
             false,
             false,
         );
     }
     if tag == 6 {
-        return low(!due | (len != 1), 1023 < count, false, false);
+        return low(!due | (len != 1), MOST_FIELDS <= count, false, false);
     }
     if tag == 7 {
-        return low(!due | (len != 6), 1023 < count, false, false);
+        return low(!due | (len != 6), MOST_FIELDS <= count, false, false);
     }
     let place = u8_at(s, p + 3);
     let flag = u8_at(s, p + 4);
     low(
         !due | (len != 2) | (11 < place) | (1 < flag),
-        1023 < count,
+        MOST_FIELDS <= count,
         false,
         false,
     )

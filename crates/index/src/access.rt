@@ -1,5 +1,15 @@
 // A chunk's numbers, and its rows.
 use layout::Chunk;
+use layout::ROW_FIELD;
+use layout::WORD_COUNT;
+use layout::WORD_INPUTS;
+use layout::WORD_LOCALS;
+use layout::WORD_PARAMS;
+use layout::WORD_REACHABLE;
+use layout::WORD_ROWS;
+use layout::WORD_STACK;
+use layout::WORD_STREAMS;
+use layout::WORD_SUSPENDS;
 use layout::numbers_at;
 use layout::row_at;
 ghost use mathlib.Core.Path.{_≡_};
@@ -8,6 +18,7 @@ ghost use mathlib.Core.Bool.{not};
 ghost use lib.Dec.{eqb};
 ghost use lib.ListN.{length, getD, set};
 ghost use Rattle.definition.specs.Module.{moduleOf};
+ghost use Rattle.layout.specs.Layout.{numbersAt, wordSuspends};
 ghost use Rattle.layout.specs.Indexed.{Indexed, chunkPlace, chunkAt};
 ghost use Rattle.layout.specs.Read.{chunkRead};
 
@@ -30,19 +41,19 @@ fn read_chunk(ws: &[u32], n: usize) -> Chunk
     requires { ⌜ n + 16 ≤ length (now ws) ⌝ }
     ensures { λ r. ⌜ r ≡ chunkRead (now (ws .entry)) n ⌝ }
 {
-    let locals = word(ws, n + 3);
-    let stack = word(ws, n + 4);
+    let locals = word(ws, n + WORD_LOCALS);
+    let stack = word(ws, n + WORD_STACK);
     Chunk {
         at: word(ws, n),
-        rows: word(ws, n + 1),
-        count: word(ws, n + 2),
+        rows: word(ws, n + WORD_ROWS),
+        count: word(ws, n + WORD_COUNT),
         locals,
         stack,
-        reachable: flag(ws, n + 5),
-        suspends: flag(ws, n + 6),
-        inputs: word(ws, n + 7),
-        params: word(ws, n + 8),
-        streams: flag(ws, n + 9),
+        reachable: flag(ws, n + WORD_REACHABLE),
+        suspends: flag(ws, n + WORD_SUSPENDS),
+        inputs: word(ws, n + WORD_INPUTS),
+        params: word(ws, n + WORD_PARAMS),
+        streams: flag(ws, n + WORD_STREAMS),
         size: 16 * (locals + stack + 6),
     }
 }
@@ -53,6 +64,15 @@ pub fn chunk_at(s: &[u8], ws: &[u32], c: usize) -> Chunk
     ensures { λ r. ⌜ r ≡ chunkAt (now (s .entry)) (now (ws .entry)) c ⌝ }
 {
     read_chunk(ws, numbers_at(c))
+}
+
+// The chunk c suspends, as its numbers say from now on.
+pub fn set_suspends(ws: &mut [u32], c: usize)
+    requires { ⌜ (c < 2 ^ 32) × (numbersAt c + wordSuspends < length (now ws)) ⌝ }
+    ensures { λ r. ⌜ now (ws .exit) ≡ set (now (ws .entry)) (numbersAt c + wordSuspends) 1 ⌝ }
+{
+    let at = numbers_at(c) + WORD_SUSPENDS;
+    ws[at] = 1;
 }
 
 // 0 where the instruction has no state, else one more than the height of its stack.
@@ -78,5 +98,5 @@ pub fn field_of(s: &[u8], ws: &[u32], c: usize, ch: Chunk, i: usize) -> usize
     requires { ⌜ i < ch .count ⌝ }
     ensures { λ r. ⌜ r ≡ getD (chunkPlace (now (s .entry)) c .code) i 0 ⌝ }
 {
-    word(ws, row_at(ch, i) + 1)
+    word(ws, row_at(ch, i) + ROW_FIELD)
 }

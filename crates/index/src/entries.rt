@@ -1,4 +1,5 @@
-// Shapes, natives and slots, found from a stored base.
+// Parameter and result shapes, natives and shared kinds, read from the description at places that the index has; and which slots have a
+// placement, as marked in the workspace.
 use description::declared_result;
 use description::param_at;
 use description::shape_at;
@@ -9,7 +10,7 @@ use le::u8_at;
 use masks::Mask;
 use widths::Shape;
 ghost use mathlib.Core.Path.{_≡_};
-ghost use Prim.Native.Nat.{_+_, _*_, _<_, _≤_, _^_};
+ghost use Prim.Native.Nat.{_+_, _*_, _<_, _≤_};
 ghost use lib.ListN.{length, getD};
 ghost use Rattle.definition.specs.Module.{moduleOf};
 ghost use Rattle.definition.specs.Data.{isBody, sharedMask};
@@ -75,7 +76,7 @@ pub fn shared_mask(kind: u8) -> Mask
     }
 }
 
-// A placement names the slot; the one past the last is asked for too.
+// Whether a field 7 names the slot. `slot` may be `t.slots`, one past the last: a read of 0 slots may name it (D6 of docs/DECISIONS.md).
 pub fn slot_placed(s: &[u8], ws: &[u32], t: Tables, slot: usize) -> bool
     requires { ⌜ Indexed (now s) (now ws) ⌝ }
     requires { ⌜ t ≡ tablesOf (now s) ⌝ }

@@ -3,27 +3,23 @@ use crate::access::field_of;
 use description::Instr;
 use description::instr_at;
 use layout::Chunk;
+use le::wide32;
 ghost use mathlib.Core.Path.{_≡_};
 ghost use Prim.Native.Nat.{_+_, _*_, _<_, _≤_, _^_};
 ghost use lib.ListN.{length};
 ghost use Rattle.le.specs.Le.{at32};
 ghost use Rattle.description.specs.Fields.{instrOf};
 ghost use Rattle.definition.specs.Module.{moduleOf};
-ghost use Rattle.form_laws.specs.Good.{chunkNo, lineNo};
+ghost use Rattle.form_laws.specs.Good.{chunkNo};
 ghost use Rattle.layout.specs.Indexed.{Indexed, chunkAt};
-
-fn wide(x: u8) -> u32
-    ensures { λ r. ⌜ (r ≡ x) × (r < 256) ⌝ }
-{
-    x as u32
-}
+ghost use Rattle.definition.specs.Leaves.{lineAt};
 
 // A number of four bytes within the description.
 fn four(s: &[u8], p: usize) -> u32
     requires { ⌜ p + 4 ≤ length (now s) ⌝ }
     ensures { λ r. ⌜ r ≡ at32 (now (s .entry)) p ⌝ }
 {
-    wide(s[p]) + 256 * wide(s[p + 1]) + 65536 * wide(s[p + 2]) + 16777216 * wide(s[p + 3])
+    wide32(s[p]) + 256 * wide32(s[p + 1]) + 65536 * wide32(s[p + 2]) + 16777216 * wide32(s[p + 3])
 }
 
 // An instruction's field within the description: one test for all its bytes.
@@ -57,7 +53,7 @@ pub fn instr_of(s: &[u8], ws: &[u32], c: usize, ch: Chunk, i: usize) -> Instr
     requires { ⌜ c < length (moduleOf (now s) .chunks) ⌝ }
     requires { ⌜ ch ≡ chunkAt (now s) (now ws) c ⌝ }
     requires { ⌜ i < ch .count ⌝ }
-    ensures { λ r. ⌜ r ≡ lineNo (chunkNo (moduleOf (now (s .entry))) c) i .instr ⌝ }
+    ensures { λ r. ⌜ r ≡ lineAt (chunkNo (moduleOf (now (s .entry))) c) i .instr ⌝ }
 {
     read_instr(s, field_of(s, ws, c, ch, i))
 }

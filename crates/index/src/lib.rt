@@ -1,4 +1,5 @@
-// Access to what the index in the workspace says: chunks, rows, where an instruction stands. No access depends on the description's length.
+// Access through the index in the workspace: chunks and rows (`access`), instructions (`fetch`), the description's tables (`entries`). No
+// access depends on the description's length.
 mod access;
 mod entries;
 mod fetch;
@@ -7,6 +8,7 @@ pub use access::chunk_at;
 pub use access::field_of;
 pub use access::row_height;
 pub use access::set_row;
+pub use access::set_suspends;
 pub use entries::native_shape;
 pub use entries::param_of;
 pub use entries::result_of;

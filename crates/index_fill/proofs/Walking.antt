@@ -17,7 +17,7 @@ use Rattle.definition.specs.Module.{codeAfter, chunksFrom}
 use Rattle.form_laws.specs.Good.{Good}
 use Rattle.layout.specs.declared.Tables.{Tables}
 use Rattle.layout.specs.Indexed.{tablesOf, Indexed, Fresh}
-use Rattle.index_fill.specs.declared.model.Work.{Work}
+use Rattle.index_fill.specs.declared.model.FillState.{FillState}
 use Rattle.index_fill.specs.model.Model.{areas, oneMore, firstTables, firstWork, codeWords, codeWork, slotWords, tablesAfter, wordsAfter, wordsFrom, tablesFrom}
 use Rattle.index_fill.proofs.model.Room.{Room, areasIn, area-of, room-after}
 use Rattle.index_fill.proofs.model.Keep.{due}
@@ -25,9 +25,10 @@ use Rattle.index_fill.proofs.model.AtWork.{length-after}
 use Rattle.index_fill.proofs.model.Begin.{fieldsOf, room-first}
 use Rattle.index_fill.proofs.model.Filled.{tables-hold, index-holds, all-fresh}
 use Rattle.index_fill.specs.Fits.{ForChunk, ForInstr, ForCode, ForSlots}
+use Rattle.layout.specs.Layout.{rowHead, headWords}
 
 -- the walk from here on gives what the whole walk gives
-pub record Going (s begin : List ℕ) (q : ℕ) (ws : List ℕ) (t : Tables) (w : Work) (at : ℕ) : Type 0 where
+pub record Going (s begin : List ℕ) (q : ℕ) (ws : List ℕ) (t : Tables) (w : FillState) (at : ℕ) : Type 0 where
   pub words : wordsFrom s (fieldsFrom s at) t w ws ≡ wordsFrom s (fieldsOf s) (firstTables s q) (firstWork (firstTables s q)) begin
   pub tables : tablesFrom s (fieldsFrom s at) t ≡ tablesFrom s (fieldsOf s) (firstTables s q)
   pub room : Room s (fieldsFrom s at) t w q
@@ -39,7 +40,7 @@ pub record Going (s begin : List ℕ) (q : ℕ) (ws : List ℕ) (t : Tables) (w 
   pub shared : t .shared ≤ at
   pub inits : t .inits ≤ at
 
-pub going-first : (s ws : List ℕ) (q : ℕ) (t : Tables) (w : Work) (at : ℕ) → Good s q → q ≤ length ws → t ≡ firstTables s q → w ≡ firstWork t → at ≡ after s 0
+pub going-first : (s ws : List ℕ) (q : ℕ) (t : Tables) (w : FillState) (at : ℕ) → Good s q → q ≤ length ws → t ≡ firstTables s q → w ≡ firstWork t → at ≡ after s 0
     → Going s ws q ws t w at
 unfolding firstTables
 going-first s ws q t w at g l e f h =
@@ -71,7 +72,7 @@ pub first-fits : (s : List ℕ) (q : ℕ) (t : Tables) → Good s q → t ≡ fi
 first-fits s q t g e = rw e (room-first s q g .chunksMost, room-first s q g .slotsMost)
 
 -- ---- room
-module _ (s : List ℕ) (p : ℕ) (ps : List ℕ) (t : Tables) (w : Work) (q n : ℕ) (r : Room s (p ∷ ps) t w q) (l : q ≤ n) (b : p < 2097152) where
+module _ (s : List ℕ) (p : ℕ) (ps : List ℕ) (t : Tables) (w : FillState) (q n : ℕ) (r : Room s (p ∷ ps) t w q) (l : q ≤ n) (b : p < 2097152) where
   for-chunk : tagAt s p ≡ 2 → ForChunk s p t w n
   unfolding chunksFrom codeAfter areasIn
   for-chunk e =
@@ -85,14 +86,14 @@ module _ (s : List ℕ) (p : ℕ) (ps : List ℕ) (t : Tables) (w : Work) (q n :
   for-instr e =
       let a = ne-eqb (tagAt s p) 2 (λ q. omega arith) in
       let k = rw (a, eq-eqb (tagAt s p) 3 e) at (r .row) in
-      let z : 96 ≤ w .size = k (omega arith) in
+      let z : rowHead ≤ w .size = k (omega arith) in
       let x = rw (a, eq-eqb (tagAt s p) 3 e) at (r .words) in
       record { place = omega arith; numbers = omega arith; row = omega arith; next = omega (arith, r .small); instrs = omega (arith, r .small) }
 
   pub for-code : ForCode (tagAt s p) s p t w n
   for-code = record { chunk = for-chunk; instr = for-instr; site = omega arith }
 
-module _ (s begin : List ℕ) (q : ℕ) (ws : List ℕ) (t : Tables) (w : Work) (at : ℕ) (g : Going s begin q ws t w at) where
+module _ (s begin : List ℕ) (q : ℕ) (ws : List ℕ) (t : Tables) (w : FillState) (at : ℕ) (g : Going s begin q ws t w at) where
   pub going-code : (tag : ℕ) → at < length s → tag ≡ tagAt s at → ForCode tag s at t w (length ws)
   going-code tag h e =
       rw e (for-code s at (fieldsFrom s (nextAt s at)) t w q (length ws) (rw (fields-turn s at h) at (g .room)) (g .enough) (g .place))
@@ -118,7 +119,7 @@ one-le : (b : Bool) (n m : ℕ) → n < m → oneMore b n ≤ m
 one-le true n m h = omega arith
 one-le false n m h = omega arith
 
-pub going-next : (s begin ws v x : List ℕ) (q : ℕ) (t u : Tables) (w y : Work) (at next tag : ℕ) → Going s begin q ws t w at → at < length s
+pub going-next : (s begin ws v x : List ℕ) (q : ℕ) (t u : Tables) (w y : FillState) (at next tag : ℕ) → Going s begin q ws t w at → at < length s
     → tag ≡ tagAt s at → y ≡ codeWork tag s at t w → v ≡ codeWords tag s at t w ws → x ≡ slotWords tag s at t v → u ≡ tablesAfter tag s at t
     → next ≡ nextAt s at → next < at + 65539 → Going s begin q x u y next
 unfolding wordsFrom wordsAfter tablesFrom tablesAfter
@@ -140,8 +141,8 @@ going-next s begin ws v x q t u w y at next tag g h e ey ev ex eu en l =
     })
 
 -- ---- the end
-pub going-done : (s begin : List ℕ) (q : ℕ) (ws : List ℕ) (t : Tables) (w : Work) (at : ℕ) → Going s begin q ws t w at → length s ≤ at
-    → Good s q → q ≤ length begin → ((k : ℕ) → k < 64 + 16 * (headerOf s 0 .chunks + headerOf s 0 .slots) → getD begin k 0 ≡ 0)
+pub going-done : (s begin : List ℕ) (q : ℕ) (ws : List ℕ) (t : Tables) (w : FillState) (at : ℕ) → Going s begin q ws t w at → length s ≤ at
+    → Good s q → q ≤ length begin → ((k : ℕ) → k < headWords + 16 * (headerOf s 0 .chunks + headerOf s 0 .slots) → getD begin k 0 ≡ 0)
     → (t ≡ tablesOf s) × Indexed s ws × Fresh s ws × (length ws ≡ length begin)
 unfolding wordsFrom tablesFrom
 going-done s begin q ws t w at g h good l z =
@@ -151,6 +152,6 @@ going-done s begin q ws t w at g h good l z =
 
 -- ---- the words cleared first
 -- the slots end before the first chunk's inputs
-pub front-fits : (s : List ℕ) (q : ℕ) (h : Header) → Good s q → h ≡ headerOf s 0 → 64 + 16 * (h .chunks + h .slots) ≤ q
+pub front-fits : (s : List ℕ) (q : ℕ) (h : Header) → Good s q → h ≡ headerOf s 0 → headWords + 16 * (h .chunks + h .slots) ≤ q
 unfolding firstTables firstWork
 front-fits s q h g e = rw e (omega (arith, room-first s q g .areas, room-first s q g .words))

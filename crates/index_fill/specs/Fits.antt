@@ -2,10 +2,11 @@
 use Prim.Native.Nat.{ℕ, _+_, _*_, _<_, _≤_}
 use mathlib.Core.Path.{_≡_}
 use mathlib.Core.List.{List}
-use Rattle.layout.specs.Layout.{numbersAt}
+use Rattle.definition.specs.Bounds.{mostChunks, mostSlots}
+use Rattle.layout.specs.Layout.{numbersAt, rowField}
 use Rattle.layout.specs.declared.Tables.{Tables}
 use Rattle.layout.specs.declared.Chunk.{Chunk}
-use Rattle.index_fill.specs.declared.model.Work.{Work}
+use Rattle.index_fill.specs.declared.model.FillState.{FillState}
 use Rattle.index_fill.specs.model.Model.{areas, paramsIn}
 
 -- the numbers of a chunk fit words
@@ -19,27 +20,27 @@ pub record Small (c : Chunk) : Type 0 where
   pub params : c .params < 4294967296
 
 -- ---- n words are there, and what is written into them fits
-pub record ForChunk (s : List ℕ) (p : ℕ) (t : Tables) (w : Work) (n : ℕ) : Type 0 where
+pub record ForChunk (s : List ℕ) (p : ℕ) (t : Tables) (w : FillState) (n : ℕ) : Type 0 where
   pub place : p < 4294967296
   pub seen : w .seen < 4294967296
   pub numbers : numbersAt (w .seen) + 16 ≤ n
   pub rows : w .free + 16 * (paramsIn s p t w + 1) < 4294967296
 
-pub record ForInstr (p : ℕ) (w : Work) (n : ℕ) : Type 0 where
+pub record ForInstr (p : ℕ) (w : FillState) (n : ℕ) : Type 0 where
   pub place : p < 4294967296
   pub numbers : w .numbers + 16 ≤ n
-  pub row : w .free + 1 < n
+  pub row : w .free + rowField < n
   pub next : w .free + w .size < 4294967296
   pub instrs : w .instrs + 1 < 4294967296
 
-pub record ForCode (tag : ℕ) (s : List ℕ) (p : ℕ) (t : Tables) (w : Work) (n : ℕ) : Type 0 where
+pub record ForCode (tag : ℕ) (s : List ℕ) (p : ℕ) (t : Tables) (w : FillState) (n : ℕ) : Type 0 where
   pub chunk : tag ≡ 2 → ForChunk s p t w n
   pub instr : tag ≡ 3 → ForInstr p w n
   pub site : w .numbers + 16 ≤ n
 
 pub record ForSlots (t : Tables) (n : ℕ) : Type 0 where
-  pub chunks : t .chunks ≤ 64
-  pub slots : t .slots ≤ 1024
+  pub chunks : t .chunks ≤ mostChunks
+  pub slots : t .slots ≤ mostSlots
   pub shared : t .shared < 4294967296
   pub inits : t .inits < 4294967296
   pub words : areas t ≤ n

@@ -1,30 +1,37 @@
-// The index of a description of good form, filled in one walk over its fields.
+// The index of a description of good form, filled in one walk over its fields. `model` has what the walk keeps between two fields.
 mod model;
 
-use description::chunk_at;
+use definition::params_in;
+use description::chunk_head_at;
 use description::header_at;
 use description::next_at;
-use description::params_of;
 use description::reader::second;
 use description::tag_at;
 use layout::Chunk;
+use layout::HEAD_WORDS;
+use layout::ROW_FIELD;
 use layout::Tables;
+use layout::WORD_COUNT;
+use layout::WORD_SUSPENDS;
 use layout::numbers_at;
 use layout::slot_at;
 use le::u8_at;
 use le::u16_at;
+use le::wide_size;
 use masks::Mask;
-pub use model::Work;
+pub use model::FillState;
 use words::clear;
+use words::put_words;
 ghost use mathlib.Core.Path.{_≡_};
 ghost use mathlib.Core.Bool.{cond};
 ghost use Prim.Native.Nat.{ℕ, _+_, _*_, _<_, _≤_, _^_};
 ghost use lib.Dec.{eqb};
 ghost use lib.ListN.{length, getD};
-ghost use Rattle.words.specs.Layout.{putN};
 ghost use Rattle.description.specs.Fields.{headerOf};
-ghost use Rattle.definition.specs.Module.{signedParams, initOf};
+ghost use Rattle.definition.specs.Bounds.{mostChunks, mostSlots};
+ghost use Rattle.definition.specs.Module.{initOf};
 ghost use Rattle.form_laws.specs.Good.{Good};
+ghost use Rattle.layout.specs.Layout.{headWords};
 ghost use Rattle.layout.specs.Indexed.{bit, Indexed, Fresh, tablesOf};
 ghost use Rattle.index_fill.specs.model.Model.{firstTables, firstWork, numbersOf, numberWords, chunkWords, chunkWork, instrWords, instrWork, codeWords, codeWork, markWords, initWords, slotWords, tablesAfter};
 ghost use Rattle.index_fill.specs.Fits.{Small, ForChunk, ForInstr, ForCode, ForSlots};
@@ -53,36 +60,29 @@ fn first_tables(s: &[u8], queue: usize) -> Tables
     }
 }
 
-fn first_work(t: Tables) -> Work
-    requires { ⌜ (t .chunks ≤ 64) × (t .slots ≤ 1024) ⌝ }
+fn first_work(t: Tables) -> FillState
+    requires { ⌜ (t .chunks ≤ mostChunks) × (t .slots ≤ mostSlots) ⌝ }
     ensures { λ r. ⌜ r ≡ firstWork t ⌝ }
 {
-    Work {
+    FillState {
         seen: 0,
         numbers: 0,
         instrs: 0,
-        free: 64 + 16 * (t.chunks + t.slots),
+        free: HEAD_WORDS + 16 * (t.chunks + t.slots),
         size: 0,
     }
 }
 
 // ---- tags 2 to 4: the chunks
-fn params_in(s: &[u8], p: usize, signed: bool) -> usize
-    requires { ⌜ p < 2 ^ 62 ⌝ }
-    ensures { λ r. ⌜ r ≡ signedParams (now (s .entry)) p signed ⌝ }
-{
-    if signed { params_of(s, p) as usize } else { 0 }
-}
-
 // The numbers of the chunk whose field is at p, before its first instruction.
-fn numbers_of(s: &[u8], p: usize, t: Tables, w: Work) -> Chunk
+fn numbers_of(s: &[u8], p: usize, t: Tables, w: FillState) -> Chunk
     requires { ⌜ ForChunk (now s) p t w (2 ^ 64) ⌝ }
     ensures { λ r. ⌜ (r ≡ numbersOf (now (s .entry)) p t w) × Small r ⌝ }
 {
-    let h = chunk_at(s, p);
+    let h = chunk_head_at(s, p);
     let locals = h.locals as usize;
     let stack = h.stack as usize;
-    let params = params_in(s, p, w.seen < t.signatures);
+    let params = wide_size(params_in(s, p, w.seen < t.signatures));
     Chunk {
         at: p,
         rows: w.free + 16 * (params + 1),
@@ -122,18 +122,7 @@ fn number_words(c: Chunk) -> [u32; 10]
     ]
 }
 
-fn put10(ws: &mut [u32], at: usize, a: [u32; 10])
-    requires { ⌜ at + 10 ≤ length (now ws) ⌝ }
-    ensures { λ r. ⌜ now (ws .exit) ≡ putN (now (ws .entry)) at a 10 ⌝ }
-{
-    let mut k = 0;
-    while k < 10 {
-        ws[at + k] = a[k];
-        k += 1;
-    }
-}
-
-fn fill_chunk(s: &[u8], ws: &mut [u32], p: usize, t: Tables, w: Work) -> Work
+fn fill_chunk(s: &[u8], ws: &mut [u32], p: usize, t: Tables, w: FillState) -> FillState
     requires { ⌜ ForChunk (now s) p t w (length (now ws)) ⌝ }
     ensures { λ r. ⌜
         (r ≡ chunkWork (now (s .entry)) p t w)
@@ -142,8 +131,9 @@ fn fill_chunk(s: &[u8], ws: &mut [u32], p: usize, t: Tables, w: Work) -> Work
 {
     let c = numbers_of(s, p, t, w);
     let n = numbers_at(w.seen);
-    put10(ws, n, number_words(c));
-    Work {
+    let numbers = number_words(c);
+    put_words(ws, n, &numbers, 10);
+    FillState {
         seen: w.seen + 1,
         numbers: n,
         instrs: 0,
@@ -153,15 +143,15 @@ fn fill_chunk(s: &[u8], ws: &mut [u32], p: usize, t: Tables, w: Work) -> Work
 }
 
 // The place of the instruction's field stands in its row.
-fn fill_instr(ws: &mut [u32], p: usize, w: Work) -> Work
+fn fill_instr(ws: &mut [u32], p: usize, w: FillState) -> FillState
     requires { ⌜ ForInstr p w (length (now ws)) ⌝ }
     ensures { λ r. ⌜ (r ≡ instrWork w) × (now (ws .exit) ≡ instrWords p w (now (ws .entry))) ⌝ }
 {
-    let row = w.free + 1;
-    let count = w.numbers + 2;
+    let row = w.free + ROW_FIELD;
+    let count = w.numbers + WORD_COUNT;
     ws[row] = p as u32;
     ws[count] = (w.instrs + 1) as u32;
-    Work {
+    FillState {
         seen: w.seen,
         numbers: w.numbers,
         instrs: w.instrs + 1,
@@ -171,7 +161,7 @@ fn fill_instr(ws: &mut [u32], p: usize, w: Work) -> Work
 }
 
 // A chunk with a dialogue site suspends.
-fn fill_code(tag: u8, s: &[u8], ws: &mut [u32], p: usize, t: Tables, w: Work) -> Work
+fn fill_code(tag: u8, s: &[u8], ws: &mut [u32], p: usize, t: Tables, w: FillState) -> FillState
     requires { ⌜ ForCode tag (now s) p t w (length (now ws)) ⌝ }
     ensures { λ r. ⌜
         (r ≡ codeWork tag (now (s .entry)) p t w)
@@ -182,7 +172,7 @@ fn fill_code(tag: u8, s: &[u8], ws: &mut [u32], p: usize, t: Tables, w: Work) ->
         2 => fill_chunk(s, ws, p, t, w),
         3 => fill_instr(ws, p, w),
         4 => {
-            let at = w.numbers + 6;
+            let at = w.numbers + WORD_SUSPENDS;
             ws[at] = 1;
             w
         }
@@ -271,7 +261,7 @@ fn tables_after(tag: u8, s: &[u8], p: usize, t: Tables) -> Tables
 fn walk(s: &[u8], ws: &mut [u32], queue: usize) -> Tables
     requires { ⌜ Good (now s) queue ⌝ }
     requires { ⌜ queue ≤ length (now ws) ⌝ }
-    requires { ⌜ ((k : ℕ) → k < 64 + 16 * (headerOf (now s) 0 .chunks + headerOf (now s) 0 .slots) → getD (now ws) k 0 ≡ 0) ⌝ }
+    requires { ⌜ ((k : ℕ) → k < headWords + 16 * (headerOf (now s) 0 .chunks + headerOf (now s) 0 .slots) → getD (now ws) k 0 ≡ 0) ⌝ }
     ensures { λ r. ⌜
         (r ≡ tablesOf (now (s .entry))) × Indexed (now (s .entry)) (now (ws .exit)) × Fresh (now (s .entry)) (now (ws .exit))
         × (length (now (ws .exit)) ≡ length (now (ws .entry)))
@@ -300,6 +290,9 @@ pub fn fill(s: &[u8], ws: &mut [u32], queue: usize) -> Tables
         ⌝ }
 {
     let h = header_at(s, 0);
-    clear(ws, 64 + 16 * ((h.chunks as usize) + (h.slots as usize)));
+    clear(
+        ws,
+        HEAD_WORDS + 16 * ((h.chunks as usize) + (h.slots as usize)),
+    );
     walk(s, ws, queue)
 }

@@ -77,9 +77,6 @@ bool-whole : (x : Bool) → sameBool x x ≡ true
 bool-whole true = refl
 bool-whole false = refl
 
-pub bool-equals : Equals sameBool
-bool-equals = record { sound = bool-sound; whole = bool-whole }
-
 predicate-sound : (x y : Predicate) → samePredicate x y ≡ true → x ≡ y
 predicate-sound Untested Untested h = refl
 predicate-sound Untested (Tests b y) h = never h

@@ -50,13 +50,10 @@ or-le-l a b = omega (arith, or-add-and a b, and-le-r a b)
 pub or-le-r : (a b : ℕ) → b ≤ bitOr a b
 or-le-r a b = omega (arith, or-add-and a b, and-le-l a b)
 
--- a test `(m & K) == 0` holds of a union just where it holds of both
+-- a test `(m & K) == 0` that holds of a union holds of both
 pub none-of-or : (m a b : ℕ) → bitAnd m (bitOr a b) ≡ 0 → (bitAnd m a ≡ 0) × (bitAnd m b ≡ 0)
 none-of-or m a b h =
     omega (arith, and-or m a b, or-le-l (bitAnd m a) (bitAnd m b), or-le-r (bitAnd m a) (bitAnd m b))
-
-pub or-none : (m a b : ℕ) → bitAnd m a ≡ 0 → bitAnd m b ≡ 0 → bitAnd m (bitOr a b) ≡ 0
-or-none m a b h k = rw (and-or, h, k) (or-zero-l 0)
 
 pub union-joins : Joins union
 union-joins =
@@ -74,11 +71,6 @@ mask-equals =
     }
 
 -- "taken in" at masks means within
-pub within-takes : (m n : Mask) → within m n ≡ true → Takes union n m
-within-takes m n h =
-    let e : bitAnd (m .bits) (n .bits) ≡ m .bits = eqb-true _ _ h in
-    ap of (omega (arith, or-add-and (n .bits) (m .bits), and-comm (n .bits) (m .bits)))
-
 pub takes-within : (m n : Mask) → Takes union n m → within m n ≡ true
 takes-within m n p =
     let e : bitOr (n .bits) (m .bits) ≡ n .bits = ap (λ (k : Mask). k .bits) p in

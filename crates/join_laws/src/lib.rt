@@ -1,1 +1,2 @@
-// Laws of the joins and tests of the crates below, and the document's marked cases: specs/ has them, there is no code.
+// No code. The laws of every join and of every test of equality, proved in proofs/; what is asked of them is in specs/Join.antt, document 01's
+// marked cases in specs/Marked.antt.

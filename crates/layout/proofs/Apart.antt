@@ -12,7 +12,7 @@ use lib.Dec.{ltb}
 use lib.ListN.{length, getD}
 use Rattle.definition.specs.Module.{Module, Chunk}
 use Rattle.form_laws.specs.Good.{noChunk, chunkNo, rowCells, chunkCells, cellsIn, wordsOf}
-use Rattle.layout.specs.Layout.{areaCells, cellsBefore, areaOf, numbersAt, slotAt, inputAt, resultAt, rowsAt, rowAt, placeAt, localAt}
+use Rattle.layout.specs.Layout.{areaCells, cellsBefore, areaOf, numbersAt, slotAt, inputAt, resultAt, rowsAt, rowAt, placeAt, localAt, headWords}
 
 -- two numbers are one, or one of them is less
 pub by-order : {P : Type 0} (a b : ℕ) → (a < b → P) → (a ≡ b → P) → (b < a → P) → P
@@ -69,7 +69,7 @@ unfolding slotAt
 slots-apart m n k l = omega arith
 
 -- the slots stand behind the numbers
-pub slots-behind : (m : Module) (n : ℕ) → 64 + 16 * length (m .chunks) ≤ slotAt m n
+pub slots-behind : (m : Module) (n : ℕ) → headWords + 16 * length (m .chunks) ≤ slotAt m n
 unfolding slotAt
 slots-behind m n = omega arith
 
@@ -78,7 +78,7 @@ unfolding slotAt areaOf
 slots-first m n k h = omega arith
 
 -- the areas stand behind the numbers, whether there are slots or none
-pub areas-behind : (m : Module) (k : ℕ) → 64 + 16 * length (m .chunks) ≤ 16 * areaOf m k
+pub areas-behind : (m : Module) (k : ℕ) → headWords + 16 * length (m .chunks) ≤ 16 * areaOf m k
 unfolding areaOf
 areas-behind m k = omega arith
 

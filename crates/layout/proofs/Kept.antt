@@ -18,26 +18,26 @@ use Rattle.words.proofs.Laws.{length-putCell, putCell-out}
 use Rattle.ring.specs.Ring.{pushed}
 use Rattle.definition.specs.Module.{Module, moduleOf}
 use Rattle.form_laws.specs.Good.{chunkNo, rowCells, wordsOf}
-use Rattle.layout.specs.Layout.{areaCells, areaOf, numbersAt, slotAt, rowsAt, rowAt}
+use Rattle.layout.specs.Layout.{areaCells, areaOf, numbersAt, slotAt, rowsAt, rowAt, rowField, wordAt, wordSuspends}
 use Rattle.layout.specs.Indexed.{Indexed, NumbersHold, suspendsAt, chunkAt}
 use Rattle.layout.proofs.Apart.{by-order, row-before, area-apart, areas-behind, slots-first, numbers-in, slots-in, rows-begin, row-begins, row-apart, row-in-area, row-in, rows-in-area, slots-behind}
 
 pub record Kept (m : Module) (ws v : List ℕ) : Type 0 where
   pub long : length v ≡ length ws
   pub numbers : (n k : ℕ) → n < length (m .chunks) → k < 10 → (k ≡ 6 → ⊥) → getD v (numbersAt n + k) 0 ≡ getD ws (numbersAt n + k) 0
-  pub fields : (n i : ℕ) → n < length (m .chunks) → i < length (chunkNo m n .code) → getD v (rowAt m n i + 1) 0 ≡ getD ws (rowAt m n i + 1) 0
+  pub fields : (n i : ℕ) → n < length (m .chunks) → i < length (chunkNo m n .code) → getD v (rowAt m n i + rowField) 0 ≡ getD ws (rowAt m n i + rowField) 0
   pub marks : (n : ℕ) → n < m .slots → getD v (slotAt m n + 15) 0 / 65536 ≡ getD ws (slotAt m n + 15) 0 / 65536
 
 -- and which chunks suspend stays too
 pub record Steady (m : Module) (ws v : List ℕ) : Type 0 where
   pub kept : Kept m ws v
-  pub suspends : (n : ℕ) → n < length (m .chunks) → getD v (numbersAt n + 6) 0 ≡ getD ws (numbersAt n + 6) 0
+  pub suspends : (n : ℕ) → n < length (m .chunks) → getD v (numbersAt n + wordSuspends) 0 ≡ getD ws (numbersAt n + wordSuspends) 0
 
 -- ---- what is kept
 numbers-keep : (s ws v : List ℕ) (n : ℕ) → n < length (moduleOf s .chunks) → Kept (moduleOf s) ws v → NumbersHold s ws n → NumbersHold s v n
 numbers-keep s ws v n h k x =
     record {
-      at = let z : numbersAt n ≡ numbersAt n + 0 = omega arith in ap (λ (j : ℕ). getD v j 0) z ∙ word 0 (omega arith) (λ e. omega arith) ∙ ap (λ (j : ℕ). getD ws j 0) (sym z) ∙ x .at;
+      at = let z : numbersAt n ≡ numbersAt n + wordAt = omega arith in ap (λ (j : ℕ). getD v j 0) z ∙ word 0 (omega arith) (λ e. omega arith) ∙ ap (λ (j : ℕ). getD ws j 0) (sym z) ∙ x .at;
       rows = word 1 (omega arith) (λ e. omega arith) ∙ x .rows;
       count = word 2 (omega arith) (λ e. omega arith) ∙ x .count;
       locals = word 3 (omega arith) (λ e. omega arith) ∙ x .locals;
@@ -96,7 +96,7 @@ steady-trans m ws v u a b =
 -- ---- words that are none of the index's: len words from at on
 pub record Free (m : Module) (at len : ℕ) : Type 0 where
   pub numbers : (n k : ℕ) → n < length (m .chunks) → k < 10 → at ≤ numbersAt n + k → numbersAt n + k < at + len → ⊥
-  pub fields : (n i : ℕ) → n < length (m .chunks) → i < length (chunkNo m n .code) → at ≤ rowAt m n i + 1 → rowAt m n i + 1 < at + len → ⊥
+  pub fields : (n i : ℕ) → n < length (m .chunks) → i < length (chunkNo m n .code) → at ≤ rowAt m n i + rowField → rowAt m n i + rowField < at + len → ⊥
   pub marks : (n : ℕ) → n < m .slots → at ≤ slotAt m n + 15 → slotAt m n + 15 < at + len → ⊥
 
 outside : (at len j : ℕ) → (at ≤ j → j < at + len → ⊥) → (j < at) ⊎ (at + len ≤ j)
@@ -116,10 +116,10 @@ steady-free m at len ws v f e same =
           record {
             long = e;
             numbers = λ n k h l d. same (numbersAt n + k) (outside at len _ (f .numbers n k h l));
-            fields = λ n i h l. same (rowAt m n i + 1) (outside at len _ (f .fields n i h l));
+            fields = λ n i h l. same (rowAt m n i + rowField) (outside at len _ (f .fields n i h l));
             marks = λ n h. ap (λ (w : ℕ). w / 65536) (same (slotAt m n + 15) (outside at len _ (f .marks n h)));
           };
-      suspends = λ n h. same (numbersAt n + 6) (outside at len _ (f .numbers n 6 h (omega arith)));
+      suspends = λ n h. same (numbersAt n + wordSuspends) (outside at len _ (f .numbers n 6 h (omega arith)));
     }
 
 -- ---- which words are free
@@ -142,7 +142,7 @@ queue-free m at len h =
 
 -- in the area of the chunk k, apart from the second word of each of its rows
 in-area : (m : Module) (k at len : ℕ) → k < length (m .chunks) → 16 * areaOf m k ≤ at → at + len ≤ 16 * (areaOf m k + areaCells (chunkNo m k))
-    → ((i : ℕ) → i < length (chunkNo m k .code) → at ≤ rowAt m k i + 1 → rowAt m k i + 1 < at + len → ⊥) → Free m at len
+    → ((i : ℕ) → i < length (chunkNo m k .code) → at ≤ rowAt m k i + rowField → rowAt m k i + rowField < at + len → ⊥) → Free m at len
 in-area m k at len h below above apart =
     record {
       numbers = λ n j l i a b. omega (arith, areas-behind m k);
@@ -161,7 +161,7 @@ facts-free m k at len h below above =
 
 -- the row of the instruction j of the chunk k, before or behind its second word
 pub row-free : (m : Module) (k j at len : ℕ) → k < length (m .chunks) → j < length (chunkNo m k .code) → rowAt m k j ≤ at
-    → at + len ≤ rowAt m k j + 16 * rowCells (chunkNo m k) → (at + len ≤ rowAt m k j + 1) ⊎ (rowAt m k j + 2 ≤ at) → Free m at len
+    → at + len ≤ rowAt m k j + 16 * rowCells (chunkNo m k) → (at + len ≤ rowAt m k j + rowField) ⊎ (rowAt m k j + 2 ≤ at) → Free m at len
 row-free m k j at len h l below above side =
     in-area m k at len h (omega (arith, row-begins m k j)) (omega (arith, row-in-area m k j l))
     (λ i o a b. by-order i j
@@ -169,7 +169,7 @@ row-free m k j at len h l below above side =
     (λ e. same side (rw e at a) (rw e at b))
     (λ q. omega (arith, row-apart m k j i q)))
   where
-    same : (at + len ≤ rowAt m k j + 1) ⊎ (rowAt m k j + 2 ≤ at) → at ≤ rowAt m k j + 1 → rowAt m k j + 1 < at + len → ⊥
+    same : (at + len ≤ rowAt m k j + rowField) ⊎ (rowAt m k j + 2 ≤ at) → at ≤ rowAt m k j + rowField → rowAt m k j + rowField < at + len → ⊥
     same (inl q) a b = omega arith
     same (inr q) a b = omega arith
 
@@ -193,17 +193,17 @@ unfolding pushed
 steady-push m ws base q x h = steady-set m ws _ x (queue-free m _ 1 (omega arith))
 
 -- a chunk is found to suspend
-pub kept-suspends : (m : Module) (ws : List ℕ) (c x : ℕ) → c < length (m .chunks) → Kept m ws (set ws (numbersAt c + 6) x)
+pub kept-suspends : (m : Module) (ws : List ℕ) (c x : ℕ) → c < length (m .chunks) → Kept m ws (set ws (numbersAt c + wordSuspends) x)
 kept-suspends m ws c x h =
     record {
       long = length-set ws at x;
       numbers = λ n k l o d. other (numbersAt n + k) (λ e. d (omega arith));
-      fields = λ n i l o. other (rowAt m n i + 1) (λ e. omega (arith, areas-behind m n, row-begins m n i));
+      fields = λ n i l o. other (rowAt m n i + rowField) (λ e. omega (arith, areas-behind m n, row-begins m n i));
       marks = λ n l. ap (λ (w : ℕ). w / 65536) (other (slotAt m n + 15) (λ e. omega (arith, slots-behind m n)));
     }
   where
     at : ℕ
-    at = numbersAt c + 6
+    at = numbersAt c + wordSuspends
 
     other : (j : ℕ) → (j ≡ at → ⊥) → getD (set ws at x) j 0 ≡ getD ws j 0
     other j d = getD-set-other ws at j x 0 d

@@ -11,13 +11,13 @@ use Rattle.le.specs.Le.{at8}
 use Rattle.description.specs.Fields.{fieldsFrom, ofTag, paramOf, resultOf, instrOf}
 use Rattle.definition.specs.Module.{Line, lineOf, siteOf, nativeOf, moduleOf}
 use Rattle.definition.specs.Data.{isBody}
-use Rattle.definition.specs.Leaves.{streams}
+use Rattle.definition.specs.Leaves.{streams, lineAt}
 use Rattle.form_laws.proofs.Chunks.{line-placed, place-in, line-in, tag-in}
 use Rattle.form_laws.proofs.Placed.{param-placed, result-placed, natives-count, native-placed, shared-count, shared-placed}
-use Rattle.form_laws.specs.Good.{Good, noShape, chunkNo, lineNo, rowCells}
+use Rattle.form_laws.specs.Good.{Good, noShape, chunkNo, rowCells}
 use Rattle.layout.specs.declared.Tables.{Tables}
 use Rattle.layout.specs.declared.Chunk.{Chunk as ChunkNumbers}
-use Rattle.layout.specs.Layout.{numbersAt, slotAt, inputAt, resultAt, rowAt}
+use Rattle.layout.specs.Layout.{numbersAt, slotAt, inputAt, resultAt, rowAt, wordReachable, wordStreams, wordSuspends, headWords}
 use Rattle.layout.specs.Indexed.{Indexed, NumbersHold, bit, noNative, tablesOf, suspendsAt, chunkPlace, chunkAt}
 use Rattle.layout.proofs.Apart.{numbers-in, slots-in, row-in}
 use Rattle.layout.specs.Read.{chunkRead}
@@ -54,8 +54,8 @@ mark-back w false e = le-ltb 65535 w (omega arith)
 pub chunk-read : (s ws : List ℕ) (n : ℕ) → NumbersHold s ws n → chunkRead ws (numbersAt n) ≡ chunkAt s ws n
 unfolding chunkRead chunkAt suspendsAt
 chunk-read s ws n h =
-    let r = flag-back (getD ws (numbersAt n + 5) 0) (chunkNo (moduleOf s) n .reachable) (h .reachable) in
-    let t = flag-back (getD ws (numbersAt n + 9) 0) (streams (moduleOf s) (chunkNo (moduleOf s) n)) (h .streams) in
+    let r = flag-back (getD ws (numbersAt n + wordReachable) 0) (chunkNo (moduleOf s) n .reachable) (h .reachable) in
+    let t = flag-back (getD ws (numbersAt n + wordStreams) 0) (streams (moduleOf s) (chunkNo (moduleOf s) n)) (h .streams) in
     λ i. record {
       at = h .at i;
       rows = h .rows i;
@@ -63,7 +63,7 @@ chunk-read s ws n h =
       locals = h .locals i;
       stack = h .stack i;
       reachable = r i;
-      suspends = not (eqb (getD ws (numbersAt n + 6) 0) 0);
+      suspends = not (eqb (getD ws (numbersAt n + wordSuspends) 0) 0);
       inputs = h .inputs i;
       params = h .params i;
       streams = t i;
@@ -136,15 +136,15 @@ module _ (s : List ℕ) (n : ℕ) (h : n < length (moduleOf s .chunks)) where
   unfolding chunkPlace
   declared-is = result-placed s n h
 
-  pub line-is : (i : ℕ) → i < length (chunkNo (moduleOf s) n .code) → lineNo (chunkNo (moduleOf s) n) i ≡ lineOf s (getD (chunkPlace s n .code) i 0)
+  pub line-is : (i : ℕ) → i < length (chunkNo (moduleOf s) n .code) → lineAt (chunkNo (moduleOf s) n) i ≡ lineOf s (getD (chunkPlace s n .code) i 0)
   unfolding chunkPlace
   line-is i l = line-placed s n i l
 
-  pub instr-is : (i : ℕ) → i < length (chunkNo (moduleOf s) n .code) → lineNo (chunkNo (moduleOf s) n) i .instr ≡ instrOf s (getD (chunkPlace s n .code) i 0)
+  pub instr-is : (i : ℕ) → i < length (chunkNo (moduleOf s) n .code) → lineAt (chunkNo (moduleOf s) n) i .instr ≡ instrOf s (getD (chunkPlace s n .code) i 0)
   unfolding lineOf
   instr-is i l = ap (λ (x : Line). x .instr) (line-is i l)
 
-  pub site-is : (i : ℕ) → i < length (chunkNo (moduleOf s) n .code) → lineNo (chunkNo (moduleOf s) n) i .site ≡ siteOf s (getD (chunkPlace s n .code) i 0)
+  pub site-is : (i : ℕ) → i < length (chunkNo (moduleOf s) n .code) → lineAt (chunkNo (moduleOf s) n) i .site ≡ siteOf s (getD (chunkPlace s n .code) i 0)
   unfolding lineOf
   site-is i l = ap (λ (x : Line). x .site) (line-is i l)
 
@@ -182,7 +182,7 @@ module _ (s : List ℕ) (t : Tables) (e : t ≡ tablesOf s) where
   unfolding tablesOf
   past-is = ap (λ (x : Tables). x .«past_placed») e
 
-  pub slot-is : (n : ℕ) → 64 + 16 * t .chunks + 16 * n ≡ slotAt (moduleOf s) n
+  pub slot-is : (n : ℕ) → headWords + 16 * t .chunks + 16 * n ≡ slotAt (moduleOf s) n
   unfolding slotAt
   slot-is n = omega (arith, chunks-are)
 
@@ -210,7 +210,7 @@ module _ (s : List ℕ) (t : Tables) (e : t ≡ tablesOf s) where
 
 -- the cell of the slot n
 pub record Slot (s ws : List ℕ) (t : Tables) (n : ℕ) : Type 0 where
-  pub at : 64 + 16 * t .chunks + 16 * n ≡ slotAt (moduleOf s) n
+  pub at : headWords + 16 * t .chunks + 16 * n ≡ slotAt (moduleOf s) n
   pub there : n < moduleOf s .slots
   pub room : slotAt (moduleOf s) n + 16 ≤ length ws
   pub small : slotAt (moduleOf s) n + 16 < 4294967296

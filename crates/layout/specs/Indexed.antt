@@ -19,7 +19,7 @@ use Rattle.form_laws.proofs.Places.{Placed, places, noPlace}
 use Rattle.form_laws.specs.Good.{Good, chunkNo, noShape, rowCells, wordsOf}
 use Rattle.layout.specs.declared.Tables.{Tables}
 use Rattle.layout.specs.declared.Chunk.{Chunk as ChunkNumbers}
-use Rattle.layout.specs.Layout.{numbersAt, slotAt, inputAt, rowsAt, rowAt}
+use Rattle.layout.specs.Layout.{numbersAt, slotAt, inputAt, rowsAt, rowAt, rowField, wordCount, wordInputs, wordLocals, wordParams, wordReachable, wordRows, wordStack, wordStreams, wordSuspends}
 
 abbrev pub noNative : Native
 noNative = record { shape = noShape; snapshot = false }
@@ -52,7 +52,7 @@ chunkPlace s n = getD (places s) n noPlace
 
 -- which chunks suspend stands among their numbers
 unfoldable pub suspendsAt : List ℕ → ℕ → Bool
-suspendsAt ws n = not (eqb (getD ws (numbersAt n + 6) 0) 0)
+suspendsAt ws n = not (eqb (getD ws (numbersAt n + wordSuspends) 0) 0)
 
 -- the numbers of the chunk n
 unfoldable pub chunkAt : List ℕ → List ℕ → ℕ → ChunkNumbers
@@ -75,22 +75,22 @@ chunkAt s ws n =
 
 pub record NumbersHold (s ws : List ℕ) (n : ℕ) : Type 0 where
   pub at : getD ws (numbersAt n) 0 ≡ chunkPlace s n .at
-  pub rows : getD ws (numbersAt n + 1) 0 ≡ rowsAt (moduleOf s) n
-  pub count : getD ws (numbersAt n + 2) 0 ≡ length (chunkNo (moduleOf s) n .code)
-  pub locals : getD ws (numbersAt n + 3) 0 ≡ chunkNo (moduleOf s) n .locals
-  pub stack : getD ws (numbersAt n + 4) 0 ≡ chunkNo (moduleOf s) n .stack
-  pub reachable : getD ws (numbersAt n + 5) 0 ≡ bit (chunkNo (moduleOf s) n .reachable)
-  pub inputs : getD ws (numbersAt n + 7) 0 ≡ inputAt (moduleOf s) n 0
-  pub params : getD ws (numbersAt n + 8) 0 ≡ length (chunkNo (moduleOf s) n .params)
-  pub streams : getD ws (numbersAt n + 9) 0 ≡ bit (streams (moduleOf s) (chunkNo (moduleOf s) n))
+  pub rows : getD ws (numbersAt n + wordRows) 0 ≡ rowsAt (moduleOf s) n
+  pub count : getD ws (numbersAt n + wordCount) 0 ≡ length (chunkNo (moduleOf s) n .code)
+  pub locals : getD ws (numbersAt n + wordLocals) 0 ≡ chunkNo (moduleOf s) n .locals
+  pub stack : getD ws (numbersAt n + wordStack) 0 ≡ chunkNo (moduleOf s) n .stack
+  pub reachable : getD ws (numbersAt n + wordReachable) 0 ≡ bit (chunkNo (moduleOf s) n .reachable)
+  pub inputs : getD ws (numbersAt n + wordInputs) 0 ≡ inputAt (moduleOf s) n 0
+  pub params : getD ws (numbersAt n + wordParams) 0 ≡ length (chunkNo (moduleOf s) n .params)
+  pub streams : getD ws (numbersAt n + wordStreams) 0 ≡ bit (streams (moduleOf s) (chunkNo (moduleOf s) n))
 
--- what stays from the filling of the index to the end of the run
+-- the index: what `fill` leaves and nothing changes until the call ends
 pub record Indexed (s ws : List ℕ) : Type 0 where
   pub good : Good s (wordsOf (moduleOf s))
   pub room : wordsOf (moduleOf s) ≤ length ws
   pub numbers : (n : ℕ) → n < length (moduleOf s .chunks) → NumbersHold s ws n
   pub fields : (n i : ℕ) → n < length (moduleOf s .chunks) → i < length (chunkNo (moduleOf s) n .code)
-      → getD ws (rowAt (moduleOf s) n i + 1) 0 ≡ getD (chunkPlace s n .code) i 0
+      → getD ws (rowAt (moduleOf s) n i + rowField) 0 ≡ getD (chunkPlace s n .code) i 0
   -- the mark of a placement stands above the writes of a round
   pub marks : (n : ℕ) → n < moduleOf s .slots → getD ws (slotAt (moduleOf s) n + 15) 0 / 65536 ≡ bit (isBody (moduleOf s) n)
 

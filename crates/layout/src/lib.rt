@@ -5,7 +5,36 @@ ghost use Prim.Native.Nat.{_+_, _*_, _<_, _^_};
 ghost use Rattle.layout.specs.Layout.{numbersAt, placeAt, localAt};
 
 // No local.
-pub const NONE: u16 = 65535;
+pub const NO_LOCAL: u16 = 65535;
+
+// The words before the chunks' numbers: the reply and three cells more.
+pub const HEAD_WORDS: usize = 64;
+
+// The words of a chunk's numbers, in the order of the fields of `Chunk`.
+pub const WORD_AT: usize = 0;
+
+pub const WORD_ROWS: usize = 1;
+
+pub const WORD_COUNT: usize = 2;
+
+pub const WORD_LOCALS: usize = 3;
+
+pub const WORD_STACK: usize = 4;
+
+pub const WORD_REACHABLE: usize = 5;
+
+pub const WORD_SUSPENDS: usize = 6;
+
+pub const WORD_INPUTS: usize = 7;
+
+pub const WORD_PARAMS: usize = 8;
+
+pub const WORD_STREAMS: usize = 9;
+
+// The words of numbers at the head of a row, 6 cells: the height and one, where the instruction's field stands, free ones.
+pub const ROW_HEAD: usize = 96;
+
+pub const ROW_FIELD: usize = 1;
 
 // The numbers that every taking uses.
 pub struct Tables {
@@ -44,7 +73,7 @@ pub fn numbers_at(c: usize) -> usize
     requires { ⌜ c < 2 ^ 32 ⌝ }
     ensures { λ r. ⌜ r ≡ numbersAt c ⌝ }
 {
-    64 + 16 * c
+    HEAD_WORDS + 16 * c
 }
 
 pub fn input_at(ch: Chunk, k: usize) -> usize
@@ -73,19 +102,19 @@ pub fn place_at(row: usize, p: usize) -> usize
     requires { ⌜ placeAt row p < 2 ^ 63 ⌝ }
     ensures { λ r. ⌜ r ≡ placeAt row p ⌝ }
 {
-    row + 96 + 16 * p
+    row + ROW_HEAD + 16 * p
 }
 
 pub fn local_at(ch: Chunk, row: usize, i: usize) -> usize
     requires { ⌜ localAt row (ch .stack) i < 2 ^ 63 ⌝ }
     ensures { λ r. ⌜ r ≡ localAt row (ch .stack) i ⌝ }
 {
-    row + 96 + 16 * (ch.stack + i)
+    row + ROW_HEAD + 16 * (ch.stack + i)
 }
 
 pub fn slot_at(t: Tables, slot: usize) -> usize
-    requires { ⌜ 64 + 16 * t .chunks + 16 * slot < 2 ^ 63 ⌝ }
-    ensures { λ r. ⌜ r ≡ 64 + 16 * t .chunks + 16 * slot ⌝ }
+    requires { ⌜ numbersAt (t .chunks) + 16 * slot < 2 ^ 63 ⌝ }
+    ensures { λ r. ⌜ r ≡ numbersAt (t .chunks) + 16 * slot ⌝ }
 {
-    64 + 16 * t.chunks + 16 * slot
+    HEAD_WORDS + 16 * t.chunks + 16 * slot
 }

@@ -6,7 +6,7 @@ use native.Mathlib.Nat.{add-zero, zero-add, add-suc, suc-add}
 use native.Mathlib.Omega.{arith}
 use lib.ListN.{length, take, drop, set, length-append}
 use lib.Seq.{sets, sets-eq, length-sets}
-use Rattle.le.specs.Wrote.{put, Wrote}
+use Rattle.le.specs.Wrote.{put, WroteN}
 
 pub add-two : (n : ℕ) → n + 2 ≡ suc (suc n)
 add-two n = omega arith
@@ -37,7 +37,7 @@ pub put-start : (l a : List ℕ) → length a ≤ length l → put l 0 a ≡ a +
 put-start l a h = rw zero-add at (put-parts l 0 a (omega arith))
 
 -- one write, and then the next
-pub and-then : {l l₁ l₂ : List ℕ} {at p r n m : ℕ} {a b : List ℕ} → Wrote l at n a l₁ p → Wrote l₁ p m b l₂ r → Wrote l at (n + m) (a ++ b) l₂ r
+pub and-then : {l l₁ l₂ : List ℕ} {at p r n m : ℕ} {a b : List ℕ} → WroteN l at n a l₁ p → WroteN l₁ p m b l₂ r → WroteN l at (n + m) (a ++ b) l₂ r
 and-then {l} {l₁} {l₂} {at} {p} {r} {n} {m} {a} {b} x y =
     record {
       bytes = y .bytes ∙ rw (x .bytes, x .next, ← x .size) (put-put l at a b);
@@ -46,9 +46,9 @@ and-then {l} {l₁} {l₂} {at} {p} {r} {n} {m} {a} {b} x y =
     }
 
 -- the length of what was written to
-pub same-length : {l l′ : List ℕ} {at r n : ℕ} {a : List ℕ} → Wrote l at n a l′ r → length l′ ≡ length l
+pub same-length : {l l′ : List ℕ} {at r n : ℕ} {a : List ℕ} → WroteN l at n a l′ r → length l′ ≡ length l
 same-length {l} {l′} {at} {r} {n} {a} w = rw (w .bytes) (length-put l at a)
 
 -- the same write, its size said otherwise
-pub resize : {l l′ : List ℕ} {at r n m : ℕ} {a : List ℕ} → Wrote l at n a l′ r → n ≡ m → Wrote l at m a l′ r
+pub resize : {l l′ : List ℕ} {at r n m : ℕ} {a : List ℕ} → WroteN l at n a l′ r → n ≡ m → WroteN l at m a l′ r
 resize w e = record { bytes = w .bytes; size = w .size ∙ e; next = rw (← e) (w .next) }

@@ -4,7 +4,7 @@ ghost use Prim.Native.Nat.{_+_, _<_, _≤_, _^_};
 ghost use lib.ListN.{length};
 ghost use mathlib.Core.List.{[], _∷_};
 ghost use Rattle.le.specs.Le.{at8, at16, at32, le16, le32};
-ghost use Rattle.le.specs.Wrote.{Wrote};
+ghost use Rattle.le.specs.Wrote.{WroteN};
 
 pub fn u8_at(s: &[u8], at: usize) -> u8
     ensures { λ r. ⌜ r ≡ at8 (now (s .entry)) at ⌝ }
@@ -12,16 +12,29 @@ pub fn u8_at(s: &[u8], at: usize) -> u8
     if at < s.len() { s[at] } else { 0 }
 }
 
-fn wide16(x: u8) -> u16
+// A byte as a wider number, one function for each width. A call asks nothing, where a cast asks that the byte fits.
+pub fn wide16(x: u8) -> u16
     ensures { λ r. ⌜ (r ≡ x) × (r < 256) ⌝ }
 {
     x as u16
 }
 
-fn wide32(x: u8) -> u32
+pub fn wide32(x: u8) -> u32
     ensures { λ r. ⌜ (r ≡ x) × (r < 256) ⌝ }
 {
     x as u32
+}
+
+pub fn wide64(x: u8) -> u64
+    ensures { λ r. ⌜ (r ≡ x) × (r < 256) ⌝ }
+{
+    x as u64
+}
+
+pub fn wide_size(x: u8) -> usize
+    ensures { λ r. ⌜ (r ≡ x) × (r < 256) ⌝ }
+{
+    x as usize
 }
 
 pub fn u16_at(s: &[u8], at: usize) -> u16
@@ -47,7 +60,7 @@ pub fn u32_at(s: &[u8], at: usize) -> u32
 // Each write answers the place after it.
 pub fn put8(buf: &mut [u8], at: usize, x: u8) -> usize
     requires { ⌜ at + 1 ≤ length (now buf) ⌝ }
-    ensures { λ r. ⌜ Wrote (now (buf .entry)) at 1 (x ∷ []) (now (buf .exit)) r ⌝ }
+    ensures { λ r. ⌜ WroteN (now (buf .entry)) at 1 (x ∷ []) (now (buf .exit)) r ⌝ }
 {
     buf[at] = x;
     at + 1
@@ -55,7 +68,7 @@ pub fn put8(buf: &mut [u8], at: usize, x: u8) -> usize
 
 pub fn put16(buf: &mut [u8], at: usize, x: u16) -> usize
     requires { ⌜ at + 2 ≤ length (now buf) ⌝ }
-    ensures { λ r. ⌜ Wrote (now (buf .entry)) at 2 (le16 x) (now (buf .exit)) r ⌝ }
+    ensures { λ r. ⌜ WroteN (now (buf .entry)) at 2 (le16 x) (now (buf .exit)) r ⌝ }
 {
     buf[at] = (x % 256) as u8;
     buf[at + 1] = (x / 256) as u8;
@@ -64,7 +77,7 @@ pub fn put16(buf: &mut [u8], at: usize, x: u16) -> usize
 
 pub fn put32(buf: &mut [u8], at: usize, x: u32) -> usize
     requires { ⌜ at + 4 ≤ length (now buf) ⌝ }
-    ensures { λ r. ⌜ Wrote (now (buf .entry)) at 4 (le32 x) (now (buf .exit)) r ⌝ }
+    ensures { λ r. ⌜ WroteN (now (buf .entry)) at 4 (le32 x) (now (buf .exit)) r ⌝ }
 {
     buf[at] = (x % 256) as u8;
     buf[at + 1] = (x / 256 % 256) as u8;

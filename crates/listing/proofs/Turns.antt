@@ -12,7 +12,7 @@ use Rattle.le.specs.Le.{at16}
 use Rattle.description.specs.Fields.{nextAt, fieldsFrom}
 use Rattle.description.proofs.Walk.{fields-turn, fields-end}
 use Rattle.listing.specs.Decimal.{digitOf, digitsFrom}
-use Rattle.listing.specs.Listing.{spaced, masksFrom, lineAt, linesOf}
+use Rattle.listing.specs.Listing.{spaced, masksFrom, fieldLine, linesOf}
 
 pub bytes-turn : (s : List ℕ) (k : ℕ) → k < length s → drop k s ≡ (getD s k 0 ∷ []) ++ drop (k + 1) s
 bytes-turn s k h = rw (add-one, drop-cons s k 0)
@@ -65,6 +65,6 @@ module _ (steps : ℕ) (s : List ℕ) (p : ℕ) where
   unfolding linesFrom linesOf
   lines-over h o = rw (fields-turn s p h, lt-ltb (length s) (nextAt s p) o)
 
-  pub lines-turn : p < length s → nextAt s p ≤ length s → linesFrom steps s p ≡ lineAt steps s p ++ linesFrom steps s (nextAt s p)
+  pub lines-turn : p < length s → nextAt s p ≤ length s → linesFrom steps s p ≡ fieldLine steps s p ++ linesFrom steps s (nextAt s p)
   unfolding linesFrom linesOf
   lines-turn h f = rw (fields-turn s p h, le-ltb (length s) (nextAt s p) f)

@@ -78,8 +78,8 @@ inspectionLine s p = inspectionWord ++ (spaced (at16 s (p + 3)) ++ lastOf (at16 
 unfoldable pub branchLine : List ℕ → ℕ → List ℕ
 branchLine s p = branchWord ++ (pairOf (at16 s (p + 3)) (at16 s (p + 5)) ++ lastOf (at8 s (p + 7)))
 
-unfoldable pub lineAt : ℕ → List ℕ → ℕ → List ℕ
-lineAt steps s p =
+unfoldable pub fieldLine : ℕ → List ℕ → ℕ → List ℕ
+fieldLine steps s p =
     cond (eqb (tagAt s p) 16) (acceptedLine steps (at32 s (p + 3)))
     (cond (eqb (tagAt s p) 19) (recordLine s p)
     (cond (eqb (tagAt s p) 20) (inspectionLine s p)
@@ -88,7 +88,7 @@ lineAt steps s p =
 -- the lines of the fields, in their order; one that overruns ends the walk
 unfoldable pub linesOf : ℕ → List ℕ → List ℕ → List ℕ
 linesOf steps s [] = []
-linesOf steps s (p ∷ ps) = cond (ltb (length s) (nextAt s p)) [] (lineAt steps s p ++ linesOf steps s ps)
+linesOf steps s (p ∷ ps) = cond (ltb (length s) (nextAt s p)) [] (fieldLine steps s p ++ linesOf steps s ps)
 
 -- s is the report buffer, of which the answer says how much the report is
 unfoldable pub listing : Answer → List ℕ → List ℕ

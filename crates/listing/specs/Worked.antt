@@ -6,7 +6,7 @@ use Rattle.le.specs.Le.{at8, at16, at32}
 use Rattle.answers.specs.declared.Answer.the-variants.{Accepted, Refused}
 use Rattle.description.specs.Fields.{tagAt, lenAt, nextAt, fieldsF, fieldsFrom}
 use Rattle.listing.specs.Decimal.{digitOf, digitsFrom, decimal}
-use Rattle.listing.specs.Listing.{spaced, pairOf, lastOf, refusedLine, acceptedLine, masksFrom, masksOf, namedOf, cellsOf, recordLine, lineAt, linesOf, listing}
+use Rattle.listing.specs.Listing.{spaced, pairOf, lastOf, refusedLine, acceptedLine, masksFrom, masksOf, namedOf, cellsOf, recordLine, fieldLine, linesOf, listing}
 
 -- the report of the example
 unfoldable pub workedReport : List ℕ
@@ -21,7 +21,7 @@ unfoldable pub refusedText : List ℕ
 refusedText = 114 ∷ 101 ∷ 102 ∷ 117 ∷ 115 ∷ 101 ∷ 100 ∷ 32 ∷ 49 ∷ 51 ∷ 32 ∷ 48 ∷ 32 ∷ 50 ∷ 32 ∷ 54 ∷ 10 ∷ []
 
 pub worked : listing (Accepted 306 6) workedReport ≡ workedText
-unfolding listing linesOf fieldsFrom fieldsF nextAt lenAt tagAt at8 at16 at32 lineAt acceptedLine recordLine cellsOf namedOf masksOf masksFrom spaced lastOf decimal digitsFrom digitOf workedReport workedText
+unfolding listing linesOf fieldsFrom fieldsF nextAt lenAt tagAt at8 at16 at32 fieldLine acceptedLine recordLine cellsOf namedOf masksOf masksFrom spaced lastOf decimal digitsFrom digitOf workedReport workedText
 worked = refl
 
 pub worked-refused : listing (Refused (record { number = 13; chunk = 0; instruction = 2; steps = 6 })) [] ≡ refusedText

@@ -6,11 +6,11 @@ use le::u8_at;
 use le::u16_at;
 use le::u32_at;
 ghost use mathlib.Core.Path.{_≡_};
-ghost use mathlib.Core.List.{[], _∷_, _++_};
-ghost use Prim.Native.Nat.{_+_, _*_, _^_, _<_, _≤_, min};
+ghost use mathlib.Core.List.{[], _∷_};
+ghost use Prim.Native.Nat.{_+_, _*_, _^_, _<_, _≤_};
 ghost use lib.ListN.{length, take};
 ghost use Rattle.listing.specs.Decimal.{digitOf, decimal};
-ghost use Rattle.listing.specs.Listing.{spaced as spacedOf, pairOf, lastOf, refusedLine, acceptedLine, masksFrom, masksOf, namedOf, cellsOf, recordLine, inspectionLine, branchLine, lineAt, linesOf, listing as listingOf};
+ghost use Rattle.listing.specs.Listing.{spaced as spacedOf, pairOf, lastOf, refusedLine, acceptedLine, masksFrom, masksOf, namedOf, cellsOf, recordLine, inspectionLine, branchLine, fieldLine, linesOf, listing as listingOf};
 ghost use Rattle.listing.specs.Laid.{Laid};
 ghost use Rattle.description.specs.Fields.{nextAt, fieldsFrom};
 
@@ -195,7 +195,7 @@ fn end_at(s: &[u8], p: usize) -> usize
 // The line of the field at p; signatures and slots have none.
 fn line(steps: u32, s: &[u8], p: usize, buf: &mut [u8], at: usize) -> usize
     requires { ⌜ (at ≤ length (now buf)) × (p < 2 ^ 63) ⌝ }
-    ensures { λ r. ⌜ Laid (now (buf .entry)) at (lineAt steps (now (s .entry)) p) (now (buf .exit)) r ⌝ }
+    ensures { λ r. ⌜ Laid (now (buf .entry)) at (fieldLine steps (now (s .entry)) p) (now (buf .exit)) r ⌝ }
 {
     match u8_at(s, p) {
         16 => accepted(buf, at, steps, u32_at(s, p + 3)),

@@ -1,1 +1,1 @@
-// What a lookup finds in the report of an accepted call: see specs/.
+// No code. What a lookup finds in the report of an accepted call: see proofs/.

@@ -76,102 +76,102 @@ Live (stop x) = ⊥
 module _ {C F R S G : Type 0}
     (join : S → S → Res (Joined S)) (cap cap′ : ℕ) (chunks : List C) (reachable : C → Bool)
     (start : C → R → List (Option S)) (after : C → List (Option S) → Option (ℕ × ℕ))
-    (open′ : R → F) (view : F → R) (absorb : F → G → F) (loud : F → Bool) (close : F → R)
+    (open′ : R → F) (view : F → R) (absorb : F → G → F) (moved : F → Bool) (close : F → R)
     (leaves : Bool → C → R → ℕ → S → Res (Effect S G)) where
   -- ---- between takings the room plays no part
   enter-same : (v : Bool) (end end′ : F → List (List (Option S)) → Where C F R S)
       → ((f : F) (past : List (List (Option S))) → end f past ≡ end′ f past) → (n : ℕ) (f : F) (past : List (List (Option S))) (cs : List C)
-      → enter join cap chunks reachable start after open′ view absorb loud close leaves v end n f past cs
-      ≡ enter join cap′ chunks reachable start after open′ view absorb loud close leaves v end′ n f past cs
+      → enter join cap chunks reachable start after open′ view absorb moved close leaves v end n f past cs
+      ≡ enter join cap′ chunks reachable start after open′ view absorb moved close leaves v end′ n f past cs
   unfolding enter
   enter-same v end end′ h n f past [] = h f past
   enter-same v end end′ h n f past (c ∷ cs) = rw (enter-same v end end′ h (suc n) f (past ++ ([] ∷ [])) cs) refl
 
   ending-same : (v : Bool) (f : F) (past : List (List (Option S)))
-      → ending join cap chunks reachable start after open′ view absorb loud close leaves v f past
-      ≡ ending join cap′ chunks reachable start after open′ view absorb loud close leaves v f past
+      → ending join cap chunks reachable start after open′ view absorb moved close leaves v f past
+      ≡ ending join cap′ chunks reachable start after open′ view absorb moved close leaves v f past
   unfolding ending endRound finish
   ending-same true f past = refl
-  ending-same false f past = enter-same (not (loud f)) _ _ (λ f past. refl) 0 (open′ (close f)) [] chunks
+  ending-same false f past = enter-same (not (moved f)) _ _ (λ f past. refl) 0 (open′ (close f)) [] chunks
 
   onward-same : (m : Machine C F S) (o : Option (ℕ × ℕ))
-      → onward join cap chunks reachable start after open′ view absorb loud close leaves m o
-      ≡ onward join cap′ chunks reachable start after open′ view absorb loud close leaves m o
+      → onward join cap chunks reachable start after open′ view absorb moved close leaves m o
+      ≡ onward join cap′ chunks reachable start after open′ view absorb moved close leaves m o
   unfolding onward
   onward-same m (some x) = refl
   onward-same m none = enter-same (m .validating) _ _ (ending-same (m .validating)) (suc (m .number)) (m .facts) (m .past ++ (m .states ∷ [])) (m .rest)
 
   settle-same : (m : Machine C F S) (v : Bool)
-      → settle join cap chunks reachable start after open′ view absorb loud close leaves m v
-      ≡ settle join cap′ chunks reachable start after open′ view absorb loud close leaves m v
+      → settle join cap chunks reachable start after open′ view absorb moved close leaves m v
+      ≡ settle join cap′ chunks reachable start after open′ view absorb moved close leaves m v
   unfolding settle
   settle-same m true = onward-same m (after (m .chunk) (m .states))
   settle-same m false = onward-same m none
 
   settled-same : (m : Machine C F S) (q : List ℕ)
-      → settled join cap chunks reachable start after open′ view absorb loud close leaves m q
-      ≡ settled join cap′ chunks reachable start after open′ view absorb loud close leaves m q
+      → settled join cap chunks reachable start after open′ view absorb moved close leaves m q
+      ≡ settled join cap′ chunks reachable start after open′ view absorb moved close leaves m q
   unfolding settled
   settled-same m [] = settle-same m (m .validating)
   settled-same m (i ∷ q) = refl
 
-  begun-same : (r : R) → begun join cap chunks reachable start after open′ view absorb loud close leaves r
-      ≡ begun join cap′ chunks reachable start after open′ view absorb loud close leaves r
+  begun-same : (r : R) → begun join cap chunks reachable start after open′ view absorb moved close leaves r
+      ≡ begun join cap′ chunks reachable start after open′ view absorb moved close leaves r
   unfolding begun finish
   begun-same r = enter-same false _ _ (λ f past. refl) 0 (open′ r) [] chunks
 
   module _ (more : cap ≤ cap′) where
-    takes-more : (m : Machine C F S) (q : List ℕ) → Live (takes join cap chunks reachable start after open′ view absorb loud close leaves m q)
-        → takes join cap′ chunks reachable start after open′ view absorb loud close leaves m q
-        ≡ takes join cap chunks reachable start after open′ view absorb loud close leaves m q
+    takes-more : (m : Machine C F S) (q : List ℕ) → Live (takes join cap chunks reachable start after open′ view absorb moved close leaves m q)
+        → takes join cap′ chunks reachable start after open′ view absorb moved close leaves m q
+        ≡ takes join cap chunks reachable start after open′ view absorb moved close leaves m q
     unfolding takes onSeen adds
     takes-more m [] l = sym (settle-same m (m .validating))
     takes-more m (i ∷ q) l =
-        seen (visit join cap view (adds join cap chunks reachable start after open′ view absorb loud close leaves (m .validating)) (leaves (m .validating) (m .chunk)) (m .facts) (m .states) q i) refl l
+        seen (visit join cap view (adds join cap chunks reachable start after open′ view absorb moved close leaves (m .validating)) (leaves (m .validating) (m .chunk)) (m .facts) (m .states) q i) refl l
       where
         seen : (a : Res (Seen F S))
-            → visit join cap view (adds join cap chunks reachable start after open′ view absorb loud close leaves (m .validating)) (leaves (m .validating) (m .chunk)) (m .facts) (m .states) q i ≡ a
-            → Live (onSeen join cap chunks reachable start after open′ view absorb loud close leaves m i a)
-            → onSeen join cap′ chunks reachable start after open′ view absorb loud close leaves m i
-            (visit join cap′ view (adds join cap′ chunks reachable start after open′ view absorb loud close leaves (m .validating)) (leaves (m .validating) (m .chunk)) (m .facts) (m .states) q i)
-            ≡ onSeen join cap chunks reachable start after open′ view absorb loud close leaves m i a
+            → visit join cap view (adds join cap chunks reachable start after open′ view absorb moved close leaves (m .validating)) (leaves (m .validating) (m .chunk)) (m .facts) (m .states) q i ≡ a
+            → Live (onSeen join cap chunks reachable start after open′ view absorb moved close leaves m i a)
+            → onSeen join cap′ chunks reachable start after open′ view absorb moved close leaves m i
+            (visit join cap′ view (adds join cap′ chunks reachable start after open′ view absorb moved close leaves (m .validating)) (leaves (m .validating) (m .chunk)) (m .facts) (m .states) q i)
+            ≡ onSeen join cap chunks reachable start after open′ view absorb moved close leaves m i a
         seen (bad n) e l = absurd l
         seen (ok r) e l =
-            rw (visit-more join cap cap′ more view (adds join cap′ chunks reachable start after open′ view absorb loud close leaves (m .validating)) (leaves (m .validating) (m .chunk)) (m .facts) (m .states) q i r e)
+            rw (visit-more join cap cap′ more view (adds join cap′ chunks reachable start after open′ view absorb moved close leaves (m .validating)) (leaves (m .validating) (m .chunk)) (m .facts) (m .states) q i r e)
             (sym (settled-same _ (r .work .queue)))
 
-    live-before : (k : ℕ) (w : Where C F R S) → Live (after-takings join cap chunks reachable start after open′ view absorb loud close leaves k w) → Live w
+    live-before : (k : ℕ) (w : Where C F R S) → Live (after-takings join cap chunks reachable start after open′ view absorb moved close leaves k w) → Live w
     unfolding after-takings
     live-before zero w l = l
     live-before (suc k) (due m) l = tt
     live-before (suc k) (done x) l = tt
     live-before (suc k) (stop x) l = l
 
-    after-more : (k : ℕ) (w : Where C F R S) → Live (after-takings join cap chunks reachable start after open′ view absorb loud close leaves k w)
-        → after-takings join cap′ chunks reachable start after open′ view absorb loud close leaves k w
-        ≡ after-takings join cap chunks reachable start after open′ view absorb loud close leaves k w
+    after-more : (k : ℕ) (w : Where C F R S) → Live (after-takings join cap chunks reachable start after open′ view absorb moved close leaves k w)
+        → after-takings join cap′ chunks reachable start after open′ view absorb moved close leaves k w
+        ≡ after-takings join cap chunks reachable start after open′ view absorb moved close leaves k w
     unfolding after-takings next
     after-more zero w l = refl
     after-more (suc k) (due m) l =
-        rw (takes-more m (m .queue) (live-before k (next join cap chunks reachable start after open′ view absorb loud close leaves m) l))
-        (after-more k (next join cap chunks reachable start after open′ view absorb loud close leaves m) l)
+        rw (takes-more m (m .queue) (live-before k (next join cap chunks reachable start after open′ view absorb moved close leaves m) l))
+        (after-more k (next join cap chunks reachable start after open′ view absorb moved close leaves m) l)
     after-more (suc k) (done x) l = refl
     after-more (suc k) (stop x) l = refl
 
     -- THEOREM: an accepted check is accepted with more room and more steps, with the same states, facts and steps
     pub check-more : (limit limit′ : ℕ) (r : R) (x : Final R S) (n : ℕ) → limit ≤ limit′
-        → check join cap chunks reachable start after open′ view absorb loud close leaves limit r ≡ accepted x n
-        → check join cap′ chunks reachable start after open′ view absorb loud close leaves limit′ r ≡ accepted x n
+        → check join cap chunks reachable start after open′ view absorb moved close leaves limit r ≡ accepted x n
+        → check join cap′ chunks reachable start after open′ view absorb moved close leaves limit′ r ≡ accepted x n
     check-more limit limit′ r x n l h =
-        counted-accepted join cap′ chunks reachable start after open′ view absorb loud close leaves limit′ r x n
-        (go (accepted-counted join cap chunks reachable start after open′ view absorb loud close leaves limit r x n h))
+        counted-accepted join cap′ chunks reachable start after open′ view absorb moved close leaves limit′ r x n
+        (go (accepted-counted join cap chunks reachable start after open′ view absorb moved close leaves limit r x n h))
       where
         w : Where C F R S
-        w = begun join cap chunks reachable start after open′ view absorb loud close leaves r
+        w = begun join cap chunks reachable start after open′ view absorb moved close leaves r
 
-        go : Counted join cap chunks reachable start after open′ view absorb loud close leaves w limit n (done x)
-            → Counted join cap′ chunks reachable start after open′ view absorb loud close leaves
-            (begun join cap′ chunks reachable start after open′ view absorb loud close leaves r) limit′ n (done x)
+        go : Counted join cap chunks reachable start after open′ view absorb moved close leaves w limit n (done x)
+            → Counted join cap′ chunks reachable start after open′ view absorb moved close leaves
+            (begun join cap′ chunks reachable start after open′ view absorb moved close leaves r) limit′ n (done x)
         go c =
             rw (← begun-same r)
             (record {
@@ -184,14 +184,14 @@ module _ {C F R S G : Type 0}
 pub accepted-same : {C F R S G : Type 0}
     (join : S → S → Res (Joined S)) (cap cap′ : ℕ) (chunks : List C) (reachable : C → Bool)
     (start : C → R → List (Option S)) (after : C → List (Option S) → Option (ℕ × ℕ))
-    (open′ : R → F) (view : F → R) (absorb : F → G → F) (loud : F → Bool) (close : F → R)
+    (open′ : R → F) (view : F → R) (absorb : F → G → F) (moved : F → Bool) (close : F → R)
     (leaves : Bool → C → R → ℕ → S → Res (Effect S G)) (limit limit′ : ℕ) (r : R) (x x′ : Final R S) (n n′ : ℕ)
-    → check join cap chunks reachable start after open′ view absorb loud close leaves limit r ≡ accepted x n
-    → check join cap′ chunks reachable start after open′ view absorb loud close leaves limit′ r ≡ accepted x′ n′ → (x ≡ x′) × (n ≡ n′)
-accepted-same join cap cap′ chunks reachable start after open′ view absorb loud close leaves limit limit′ r x x′ n n′ h h′ =
+    → check join cap chunks reachable start after open′ view absorb moved close leaves limit r ≡ accepted x n
+    → check join cap′ chunks reachable start after open′ view absorb moved close leaves limit′ r ≡ accepted x′ n′ → (x ≡ x′) × (n ≡ n′)
+accepted-same join cap cap′ chunks reachable start after open′ view absorb moved close leaves limit limit′ r x x′ n n′ h h′ =
     accepted-inj
-    (sym (check-more join cap (cap + cap′) chunks reachable start after open′ view absorb loud close leaves (omega arith) limit (limit + limit′) r x n (omega arith) h)
-    ∙ check-more join cap′ (cap + cap′) chunks reachable start after open′ view absorb loud close leaves (omega arith) limit′ (limit + limit′) r x′ n′ (omega arith) h′)
+    (sym (check-more join cap (cap + cap′) chunks reachable start after open′ view absorb moved close leaves (omega arith) limit (limit + limit′) r x n (omega arith) h)
+    ∙ check-more join cap′ (cap + cap′) chunks reachable start after open′ view absorb moved close leaves (omega arith) limit′ (limit + limit′) r x′ n′ (omega arith) h′)
 
 -- ---- 8: where the queue is full
 module _ {S : Type 0} (join : S → S → Res (Joined S)) (cap : ℕ) where

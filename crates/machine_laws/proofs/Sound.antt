@@ -35,15 +35,15 @@ module _ {C R S G : Type 0} (join : S → S → Res (Joined S)) (start : C → R
     pub quiet-after : after c st ≡ none
 
 -- ---- what is asked of the rules
-pub record Rules {C F R S G : Type 0} (start : C → R → List (Option S)) (open′ : R → F) (view : F → R) (absorb : F → G → F) (loud : F → Bool) (close : F → R)
+pub record Rules {C F R S G : Type 0} (start : C → R → List (Option S)) (open′ : R → F) (view : F → R) (absorb : F → G → F) (moved : F → Bool) (close : F → R)
     (leaves : Bool → C → R → ℕ → S → Res (Effect S G)) (frame : Frame view absorb) (Fits : R → G → Type 0) (Pass : C → ℕ → ℕ → Type 0) : Type 0 where
   -- validation makes of a state what the rounds make of it, where it accepts
   pub agree : (c : C) (r : R) (i : ℕ) (s : S) (e e′ : Effect S G) → leaves true c r i s ≡ ok e → leaves false c r i s ≡ ok e′ → e ≡ e′
   pub passes : (v : Bool) (c : C) (r : R) (i : ℕ) (s : S) (e : Effect S G) → leaves v c r i s ≡ ok e → (t : ℕ) (x : S) → List·Memᴰ (t, x) (e .ways) → Pass c i t
-  -- facts that are not loud are quiet, are read the same when opened again, and what they have fits what the rules read
-  pub calm : (f : F) → loud f ≡ false → frame .Quiet f
-  pub reopened : (f : F) → loud f ≡ false → view (open′ (close f)) ≡ view f
-  pub fitting : (f : F) (g : G) → frame .Good f → loud f ≡ false → frame .Has f g → Fits (view f) g
+  -- facts that are not moved are quiet, are read the same when opened again, and what they have fits what the rules read
+  pub calm : (f : F) → moved f ≡ false → frame .Quiet f
+  pub reopened : (f : F) → moved f ≡ false → view (open′ (close f)) ≡ view f
+  pub fitting : (f : F) (g : G) → frame .Good f → moved f ≡ false → frame .Has f g → Fits (view f) g
   pub good-start : (r : R) → frame .Good (open′ r)
   -- only the first instruction starts
   pub first-only : (c : C) (r : R) (i : ℕ) (s : S) → Recorded (start c r) i s → i ≡ 0
@@ -61,11 +61,11 @@ same-frame view = record {
 }
 
 module _ {C F R S G : Type 0} (join : S → S → Res (Joined S)) (cap : ℕ) (chunks : List C) (reachable : C → Bool) (start : C → R → List (Option S))
-    (after : C → List (Option S) → Option (ℕ × ℕ)) (open′ : R → F) (view : F → R) (absorb : F → G → F) (loud : F → Bool) (close : F → R)
+    (after : C → List (Option S) → Option (ℕ × ℕ)) (open′ : R → F) (view : F → R) (absorb : F → G → F) (moved : F → Bool) (close : F → R)
     (leaves : Bool → C → R → ℕ → S → Res (Effect S G)) (laws : Laws join) (frame : Frame view absorb) (Fits : R → G → Type 0) (Pass : C → ℕ → ℕ → Type 0)
-    (rules : Rules start open′ view absorb loud close leaves frame Fits Pass) where
+    (rules : Rules start open′ view absorb moved close leaves frame Fits Pass) where
   -- a chunk's run in the last round and in validation: the same states, so what the first settled holds of the second
-  chunk-fixed : (r : R) (c : C) (f f₁ last g g₁ : F) (st st′ : List (Option S)) → view f ≡ r → view g ≡ r → view last ≡ r → loud last ≡ false → frame .Good last
+  chunk-fixed : (r : R) (c : C) (f f₁ last g g₁ : F) (st st′ : List (Option S)) → view f ≡ r → view g ≡ r → view last ≡ r → moved last ≡ false → frame .Good last
       → frame .Quiet f₁ → ((x : G) → frame .Has f₁ x → frame .Has last x) → Steps join cap view absorb (leaves false c) f (start c r) (0 ∷ []) f₁ st []
       → Steps join cap view (λ f g. f) (leaves true c) g (start c r) (0 ∷ []) g₁ st′ [] → after c st′ ≡ none
       → Fixed join start after (leaves true) Fits Pass r c st′
@@ -110,7 +110,7 @@ module _ {C F R S G : Type 0} (join : S → S → Res (Joined S)) (cap : ℕ) (c
           record { out = h .out; leaving = leaving; taken = h .taken; fits = fit (h .out) (k .out) (rules .agree c r i s (h .out) (k .out) leaving leaving′) (k .had) }
 
   abbrev Swept : Bool → F → List C → F → List (List (Option S)) → Type 0
-  Swept = Sweep join cap chunks reachable start after open′ view absorb loud close leaves
+  Swept = Sweep join cap chunks reachable start after open′ view absorb moved close leaves
 
   -- a chunk with its states: fixed if it is reachable, with none if it is not
   abbrev pub Left : R → C → List (Option S) → Type 0
@@ -139,7 +139,7 @@ module _ {C F R S G : Type 0} (join : S → S → Res (Joined S)) (cap : ℕ) (c
   sweep-same (work {c = c} e a n s) = sweep-same s ∙ steps-still join laws cap view (λ f g. f) (same-frame view) (leaves true c) a tt .1
 
   -- the last round and validation side by side
-  sweeps-fixed : {f last g g′ : F} {cs : List C} {sts sts′ : List (List (Option S))} → loud last ≡ false → frame .Good last → Swept false f cs last sts
+  sweeps-fixed : {f last g g′ : F} {cs : List C} {sts sts′ : List (List (Option S))} → moved last ≡ false → frame .Good last → Swept false f cs last sts
       → Swept true g cs g′ sts′ → view g ≡ view last → Each (Left (view last)) cs sts′
   unfolding adds
   sweeps-fixed low good swept swept eg = none-left
@@ -163,11 +163,11 @@ module _ {C F R S G : Type 0} (join : S → S → Res (Joined S)) (cap : ℕ) (c
 
   -- THEOREM: what an accepted check leaves
   pub check-sound : (limit : ℕ) (r : R) (x : Final R S) (n : ℕ)
-      → check join cap chunks reachable start after open′ view absorb loud close leaves limit r ≡ accepted x n → Each (Left (x .facts)) chunks (x .states)
-  check-sound limit r x n h = go (check-apart join cap chunks reachable start after open′ view absorb loud close leaves limit r x n h)
+      → check join cap chunks reachable start after open′ view absorb moved close leaves limit r ≡ accepted x n → Each (Left (x .facts)) chunks (x .states)
+  check-sound limit r x n h = go (check-apart join cap chunks reachable start after open′ view absorb moved close leaves limit r x n h)
     where
-      go : Idle join cap chunks reachable start after open′ view absorb loud close leaves chunks (x .states)
-          ⊎ Apart join cap chunks reachable start after open′ view absorb loud close leaves x → Each (Left (x .facts)) chunks (x .states)
+      go : Idle join cap chunks reachable start after open′ view absorb moved close leaves chunks (x .states)
+          ⊎ Apart join cap chunks reachable start after open′ view absorb moved close leaves x → Each (Left (x .facts)) chunks (x .states)
       go (inl a) = idle-left a
       go (inr a) =
           let eg = rules .reopened (a .last) (a .low) in

@@ -30,10 +30,10 @@ machine v n c cs past f st q =
 module _ {C F R S G : Type 0}
     (join : S → S → Res (Joined S)) (cap : ℕ) (chunks : List C) (reachable : C → Bool)
     (start : C → R → List (Option S)) (after : C → List (Option S) → Option (ℕ × ℕ))
-    (open′ : R → F) (view : F → R) (absorb : F → G → F) (loud : F → Bool) (close : F → R)
+    (open′ : R → F) (view : F → R) (absorb : F → G → F) (moved : F → Bool) (close : F → R)
     (leaves : Bool → C → R → ℕ → S → Res (Effect S G)) where
   abbrev pub Adds : Bool → F → G → F
-  Adds = adds join cap chunks reachable start after open′ view absorb loud close leaves
+  Adds = adds join cap chunks reachable start after open′ view absorb moved close leaves
 
   -- a chunk's run, in its mode
   abbrev pub Working : Bool → C → F → List (Option S) → List ℕ → F → List (Option S) → List ℕ → Type 0
@@ -47,22 +47,22 @@ module _ {C F R S G : Type 0}
         → Working v c f (start c (view f)) (0 ∷ []) f₁ st [] → (v ≡ true → after c st ≡ none) → Sweep v f₁ cs f′ sts → Sweep v f (c ∷ cs) f′ (st ∷ sts)
 
   abbrev Entered : Bool → (F → List (List (Option S)) → Where C F R S) → ℕ → F → List (List (Option S)) → List C → Where C F R S
-  Entered = enter join cap chunks reachable start after open′ view absorb loud close leaves
+  Entered = enter join cap chunks reachable start after open′ view absorb moved close leaves
 
   abbrev Ended : Bool → F → List (List (Option S)) → Where C F R S
-  Ended = ending join cap chunks reachable start after open′ view absorb loud close leaves
+  Ended = ending join cap chunks reachable start after open′ view absorb moved close leaves
 
   abbrev Settles : Machine C F S → Bool → Where C F R S
-  Settles = settle join cap chunks reachable start after open′ view absorb loud close leaves
+  Settles = settle join cap chunks reachable start after open′ view absorb moved close leaves
 
   abbrev Finished : F → List (List (Option S)) → Where C F R S
-  Finished = finish join cap chunks reachable start after open′ view absorb loud close leaves
+  Finished = finish join cap chunks reachable start after open′ view absorb moved close leaves
 
   -- the run from where it stands
   abbrev pub Goes : ℕ → ℕ → Where C F R S → Ran R S
   Goes left steps =
-      onNext join cap chunks reachable start after open′ view absorb loud close leaves
-      (λ m. run join cap chunks reachable start after open′ view absorb loud close leaves left steps m) steps
+      onNext join cap chunks reachable start after open′ view absorb moved close leaves
+      (λ m. run join cap chunks reachable start after open′ view absorb moved close leaves left steps m) steps
 
   -- ---- the chunk at work
   pub record Worked (v : Bool) (n : ℕ) (c : C) (cs : List C) (past : List (List (Option S))) (f : F) (st : List (Option S)) (q : List ℕ) (left : ℕ)
@@ -82,11 +82,11 @@ module _ {C F R S G : Type 0}
 
     abbrev Runs : ℕ → ℕ → F → List (Option S) → List ℕ → Type 0
     Runs left steps f st q =
-        run join cap chunks reachable start after open′ view absorb loud close leaves left steps (machine v n c cs past f st q) ≡ accepted x total
+        run join cap chunks reachable start after open′ view absorb moved close leaves left steps (machine v n c cs past f st q) ≡ accepted x total
 
     from-settled : (left steps : ℕ) → ((f : F) (st : List (Option S)) (q : List ℕ) → Runs left (suc steps) f st q → Chunk left f st q)
         → (f : F) (st : List (Option S)) (q : List ℕ)
-        → Goes left (suc steps) (settled join cap chunks reachable start after open′ view absorb loud close leaves (machine v n c cs past f st q) q) ≡ accepted x total
+        → Goes left (suc steps) (settled join cap chunks reachable start after open′ view absorb moved close leaves (machine v n c cs past f st q) q) ≡ accepted x total
         → Chunk (suc left) f st q
     unfolding settled onNext
     from-settled left steps ih f st [] h = record { facts = f; states = st; room = left; steps = suc steps; ran = stay; less = omega arith; onwards = h }
@@ -96,7 +96,7 @@ module _ {C F R S G : Type 0}
 
     from-seen : (left steps : ℕ) → ((f : F) (st : List (Option S)) (q : List ℕ) → Runs left (suc steps) f st q → Chunk left f st q)
         → (f : F) (st : List (Option S)) (i : ℕ) (q : List ℕ) (a : Res (Seen F S)) → visit join cap view (Adds v) (leaves v c) f st q i ≡ a
-        → Goes left (suc steps) (onSeen join cap chunks reachable start after open′ view absorb loud close leaves (machine v n c cs past f st (i ∷ q)) i a) ≡ accepted x total
+        → Goes left (suc steps) (onSeen join cap chunks reachable start after open′ view absorb moved close leaves (machine v n c cs past f st (i ∷ q)) i a) ≡ accepted x total
         → Chunk (suc left) f st (i ∷ q)
     unfolding onSeen onNext
     from-seen left steps ih f st i q (bad k) e h = absurd (refused≢accepted h)
@@ -143,7 +143,7 @@ module _ {C F R S G : Type 0}
   settled-on true n c cs past f st left steps x total h = go (after c st) refl h
     where
       go : (o : Option (ℕ × ℕ)) → after c st ≡ o
-          → Goes left steps (onward join cap chunks reachable start after open′ view absorb loud close leaves (machine true n c cs past f st []) o) ≡ accepted x total
+          → Goes left steps (onward join cap chunks reachable start after open′ view absorb moved close leaves (machine true n c cs past f st []) o) ≡ accepted x total
           → (true ≡ true → after c st ≡ none) × (Goes left steps (Entered true (Ended true) (suc n) f (past ++ (st ∷ [])) cs) ≡ accepted x total)
       go (some y) e h = absurd (refused≢accepted h)
       go none e h = (λ u. e, h)
@@ -212,7 +212,7 @@ module _ {C F R S G : Type 0}
     pub found : List (List (Option S))
     pub facts : F
     pub round : Sweep false (open′ from) chunks last found
-    pub low : loud last ≡ false
+    pub low : moved last ≡ false
     pub validation : Sweep true (open′ (close last)) chunks facts (x .states)
     pub reads : view facts ≡ x .facts
 
@@ -247,7 +247,7 @@ module _ {C F R S G : Type 0}
       go true e h ih = absurd (true≢false h)
       go false e h ih = let (sts, a, p) = ih h in ([] ∷ sts, one-more (e, refl) a, rw append-assoc at p)
 
-  apart : (r : R) (f : F) (sts : List (List (Option S))) (f′ : F) (sts′ : List (List (Option S))) (x : Final R S) → Sweep false (open′ r) chunks f sts → loud f ≡ false
+  apart : (r : R) (f : F) (sts : List (List (Option S))) (f′ : F) (sts′ : List (List (Option S))) (x : Final R S) → Sweep false (open′ r) chunks f sts → moved f ≡ false
       → Sweep true (open′ (close f)) chunks f′ sts′ → record { facts = view f′; states = sts′ } ≡ x → Apart x
   apart r f sts f′ sts′ x s e s′ ex = record {
     from = r;
@@ -268,11 +268,11 @@ module _ {C F R S G : Type 0}
   rounds-apart (suc bound) left steps l u r x total h =
       let p = pass-ran false x total 0 (open′ r) [] chunks left steps h in
       let m = p .less u in
-      go (rounds-apart bound) (p .facts) (p .states) (p .room) (p .steps) (omega arith) (p .ran) (loud (p .facts)) refl (p .onwards)
+      go (rounds-apart bound) (p .facts) (p .states) (p .room) (p .steps) (omega arith) (p .ran) (moved (p .facts)) refl (p .onwards)
     where
       go : ((left steps : ℕ) → left < bound → busy chunks ≡ true → (r : R) (x : Final R S) (total : ℕ)
           → Goes left steps (Entered false (Ended false) 0 (open′ r) [] chunks) ≡ accepted x total → Apart x)
-          → (f : F) (sts : List (List (Option S))) (room steps : ℕ) → room < bound → Sweep false (open′ r) chunks f sts → (b : Bool) → loud f ≡ b
+          → (f : F) (sts : List (List (Option S))) (room steps : ℕ) → room < bound → Sweep false (open′ r) chunks f sts → (b : Bool) → moved f ≡ b
           → Goes room steps (Entered (not b) Finished 0 (open′ (close f)) [] chunks) ≡ accepted x total → Apart x
       go ih f sts room steps l s true e h = ih room steps l u (close f) x total (rw (enter-busy false Finished (Ended false) 0 (open′ (close f)) [] chunks u) at h)
       go ih f sts room steps l s false e h =
@@ -281,7 +281,7 @@ module _ {C F R S G : Type 0}
 
   -- an accepted check: no chunk is reachable, or a last round and validation
   pub check-apart : (limit : ℕ) (r : R) (x : Final R S) (n : ℕ)
-      → check join cap chunks reachable start after open′ view absorb loud close leaves limit r ≡ accepted x n → Idle chunks (x .states) ⊎ Apart x
+      → check join cap chunks reachable start after open′ view absorb moved close leaves limit r ≡ accepted x n → Idle chunks (x .states) ⊎ Apart x
   unfolding check begun finish onNext
   check-apart limit r x n h = go (busy chunks) refl
     where

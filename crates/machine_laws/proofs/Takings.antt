@@ -9,7 +9,8 @@ use mathlib.Core.Option.{Option}
 use mathlib.Core.List.{List}
 use Rattle.answers.specs.declared.Refusal.{Refusal}
 use Rattle.definition.specs.Res.{Res}
-use Rattle.definition.specs.Machine.{Joined, Effect, Machine, Final, Stop, Where, due, done, stop, Ran, accepted, refused, halt, refusal, next, entryDue, onNext, run, begun, check}
+use Rattle.answers.specs.Answers.{refusal}
+use Rattle.definition.specs.Machine.{Joined, Effect, Machine, Final, Stop, Where, due, done, stop, Ran, accepted, refused, halt, next, entryDue, onNext, run, begun, check}
 use Rattle.machine_laws.proofs.Sweep.{refused≢accepted, accepted-inj, Goes}
 
 pub done≢due : {C F R S : Type 0} {x : Final R S} {m : Machine C F S} → _≡_ {A = Where C F R S} (done x) (due m) → ⊥
@@ -33,10 +34,10 @@ refused-inj h = cc
 module _ {C F R S G : Type 0}
     (join : S → S → Res (Joined S)) (cap : ℕ) (chunks : List C) (reachable : C → Bool)
     (start : C → R → List (Option S)) (after : C → List (Option S) → Option (ℕ × ℕ))
-    (open′ : R → F) (view : F → R) (absorb : F → G → F) (loud : F → Bool) (close : F → R)
+    (open′ : R → F) (view : F → R) (absorb : F → G → F) (moved : F → Bool) (close : F → R)
     (leaves : Bool → C → R → ℕ → S → Res (Effect S G)) where
   abbrev Next : Machine C F S → Where C F R S
-  Next = next join cap chunks reachable start after open′ view absorb loud close leaves
+  Next = next join cap chunks reachable start after open′ view absorb moved close leaves
 
   -- where the machine stands after k takings, or where it ended
   unfoldable pub after-takings : ℕ → Where C F R S → Where C F R S
@@ -54,12 +55,12 @@ module _ {C F R S G : Type 0}
 
   -- what is answered there: 7 where an entry is still due
   unfoldable pub says : ℕ → Where C F R S → Ran R S
-  says n (due m) = refused (refusal 7 (m .number) (entryDue join cap chunks reachable start after open′ view absorb loud close leaves (m .queue)) n)
+  says n (due m) = refused (refusal 7 (m .number) (entryDue join cap chunks reachable start after open′ view absorb moved close leaves (m .queue)) n)
   says n (done x) = accepted x n
   says n (stop x) = refused (refusal (x .number) (x .chunk) (x .instruction) n)
 
   abbrev Going : ℕ → ℕ → Where C F R S → Ran R S
-  Going = Goes join cap chunks reachable start after open′ view absorb loud close leaves
+  Going = Goes join cap chunks reachable start after open′ view absorb moved close leaves
 
   pub goes-is : (left steps : ℕ) (w : Where C F R S) → Going left steps w ≡ says (steps + takings left w) (after-takings left w)
   unfolding run onNext says takings after-takings
@@ -135,7 +136,7 @@ module _ {C F R S G : Type 0}
   -- a refusal is the limit's, or of where the machine stopped
   abbrev Refused : ℕ → Where C F R S → Refusal → Type 0
   Refused n w ρ =
-      ((m : Machine C F S) × (w ≡ due m) × (ρ ≡ refusal 7 (m .number) (entryDue join cap chunks reachable start after open′ view absorb loud close leaves (m .queue)) n))
+      ((m : Machine C F S) × (w ≡ due m) × (ρ ≡ refusal 7 (m .number) (entryDue join cap chunks reachable start after open′ view absorb moved close leaves (m .queue)) n))
       ⊎ ((w ≡ halt (ρ .number) (ρ .chunk) (ρ .instruction)) × (n ≡ ρ .steps))
 
   says-refused : (n : ℕ) (w : Where C F R S) (ρ : Refusal) → says n w ≡ refused ρ → Refused n w ρ
@@ -155,10 +156,10 @@ module _ {C F R S G : Type 0}
 
   -- ---- the check
   abbrev Begun : R → Where C F R S
-  Begun = begun join cap chunks reachable start after open′ view absorb loud close leaves
+  Begun = begun join cap chunks reachable start after open′ view absorb moved close leaves
 
   abbrev Checked : ℕ → R → Ran R S
-  Checked = check join cap chunks reachable start after open′ view absorb loud close leaves
+  Checked = check join cap chunks reachable start after open′ view absorb moved close leaves
 
   -- THEOREM: the check says what stands after its takings, and their number
   pub check-is : (limit : ℕ) (r : R) → Checked limit r ≡ says (takings limit (Begun r)) (after-takings limit (Begun r))
@@ -198,7 +199,7 @@ module _ {C F R S G : Type 0}
   abbrev pub Spent : ℕ → R → Refusal → Type 0
   Spent limit r ρ =
       (m : Machine C F S) × (after-takings limit (Begun r) ≡ due m)
-      × (ρ ≡ refusal 7 (m .number) (entryDue join cap chunks reachable start after open′ view absorb loud close leaves (m .queue)) limit)
+      × (ρ ≡ refusal 7 (m .number) (entryDue join cap chunks reachable start after open′ view absorb moved close leaves (m .queue)) limit)
 
   pub refused-counted : (limit : ℕ) (r : R) (ρ : Refusal) → Checked limit r ≡ refused ρ
       → Spent limit r ρ ⊎ Counted (Begun r) limit (ρ .steps) (halt (ρ .number) (ρ .chunk) (ρ .instruction))
@@ -215,7 +216,7 @@ module _ {C F R S G : Type 0}
   counted-refused limit r x n h = check-is limit r ∙ counted-says (Begun r) limit n (stop x) tt h
 
   pub spent-refused : (limit : ℕ) (r : R) (m : Machine C F S) → after-takings limit (Begun r) ≡ due m
-      → Checked limit r ≡ refused (refusal 7 (m .number) (entryDue join cap chunks reachable start after open′ view absorb loud close leaves (m .queue)) limit)
+      → Checked limit r ≡ refused (refusal 7 (m .number) (entryDue join cap chunks reachable start after open′ view absorb moved close leaves (m .queue)) limit)
   unfolding says
   spent-refused limit r m e = check-is limit r ∙ (rw (takings-due limit (Begun r) m e, e) refl)
 
@@ -232,7 +233,7 @@ module _ {C F R S G : Type 0}
 
   -- a run of a + b takings that is not over after a is a run of b from there
   pub run-split : (a b steps : ℕ) (m m′ : Machine C F S) → after-takings a (due m) ≡ due m′
-      → run join cap chunks reachable start after open′ view absorb loud close leaves (a + b) steps m
-      ≡ run join cap chunks reachable start after open′ view absorb loud close leaves b (steps + a) m′
+      → run join cap chunks reachable start after open′ view absorb moved close leaves (a + b) steps m
+      ≡ run join cap chunks reachable start after open′ view absorb moved close leaves b (steps + a) m′
   unfolding onNext
   run-split a b steps m m′ e = goes-split a b steps (due m) ∙ (rw (takings-due a (due m) m′ e, e) refl)

@@ -1,6 +1,9 @@
 -- The names of the masks, as types.rs has them.
+use Prim.Native.Nat.{ℕ}
 use Rattle.masks.specs.declared.Mask.{Mask}
-use Rattle.masks.specs.Mask.{of}
+
+abbrev pub of : ℕ → Mask
+of n = record { bits = n }
 
 abbrev pub NONE : Mask
 NONE = of 0
@@ -77,3 +80,11 @@ SCALARS = of 4159
 -- those and BODY: what a guard can tell apart
 abbrev pub GUARDED : Mask
 GUARDED = of 7999
+
+-- every kind but TEXT, TRUE folded into FALSE: what can be packed
+abbrev pub PACKED : Mask
+PACKED = of 4031
+
+-- the bits that stay where TRUE is folded into FALSE: every bit but that of TRUE
+abbrev pub FOLDED : Mask
+FOLDED = of 61439

@@ -63,6 +63,8 @@ impl Mask {
     pub const SCALARS: Mask = Mask { bits: 4159 };
 
     pub const GUARDED: Mask = Mask { bits: 7999 };
+    // Every kind but TEXT, TRUE folded into FALSE: what can be packed.
+    pub const PACKED: Mask = Mask { bits: 4031 };
 
     // The mask of a scalar kind.
     pub fn scalar(kind: u8) -> Mask
@@ -144,6 +146,7 @@ impl Mask {
         u16::count_ones(folded.bits) == 1
     }
 
+    // No caller here: document 01 asks for it, and a later request for another form of it. As in types.rs it serves later passes.
     pub fn operand_kind(self) -> OperandKind
         ensures { λ r. ⌜ r ≡ operandKind self ⌝ }
     {

@@ -1,5 +1,5 @@
-// New values: a constant, a part that is read, what a native gives, a private read; what an instruction makes of its operands, and the
-// kinds of it.
+// New values: a constant, a part that is read, what a native gives, a private read; the outputs after the first (`results`); the kinds of bit
+// instructions and of a negation (`kinds`).
 mod kinds;
 pub mod results;
 

@@ -1,7 +1,6 @@
-// What an instruction makes of its operands, from masks and cells.
+// The outputs after the first, from the first; and a cell with another origin or predicate.
 ghost use mathlib.Core.Path.{_≡_};
-ghost use Rattle.definition.specs.Outputs.{withPredicate, withOrigin, inspection, predicateOn, tested};
-ghost use Rattle.new_values.specs.results.Made.{statusMask, secondBy, restBy};
+ghost use Rattle.definition.specs.Outputs.{withPredicate, withOrigin, inspection, predicateOn, tested, statusMask, secondOutput, restOutput};
 use cells::Cell;
 use description::Instr;
 use flows::Flow;
@@ -22,7 +21,7 @@ fn status_mask(given: u8) -> Mask
 
 // The second output, from the first.
 pub fn second_output(others: Others, i: Instr, first: Cell, float: u32) -> Cell
-    ensures { λ r. ⌜ r ≡ secondBy others i first float ⌝ }
+    ensures { λ r. ⌜ r ≡ secondOutput others i first float ⌝ }
 {
     match others {
         Others::Unknowns => Cell::made(Mask::UNKNOWN, float),
@@ -36,7 +35,7 @@ pub fn second_output(others: Others, i: Instr, first: Cell, float: u32) -> Cell
 
 // The outputs past the second.
 pub fn rest_output(others: Others, first: Cell, float: u32) -> Cell
-    ensures { λ r. ⌜ r ≡ restBy others first float ⌝ }
+    ensures { λ r. ⌜ r ≡ restOutput others first float ⌝ }
 {
     match others {
         Others::Unknowns => Cell::made(Mask::UNKNOWN, float),

@@ -12,6 +12,19 @@ ghost use Rattle.ops.specs.declared.Acts.the-variants.{Still, Stores};
 ghost use Rattle.ops.specs.declared.Data.the-variants.{NoSlot};
 use masks::Mask;
 
+// The places in Op of the instructions that code asks for by name; all others are met by their rules.
+pub const IF: u8 = 21;
+
+pub const BREAK_IF: u8 = 27;
+
+pub const CALL: u8 = 30;
+
+pub const YIELD: u8 = 32;
+
+pub const IS_ENUM: u8 = 40;
+
+pub const IS_STRUCT: u8 = 41;
+
 // The first output.
 pub enum Makes {
     // Of any kind.

@@ -23,19 +23,18 @@ use Rattle.words.specs.Layout.{cellAt}
 use Rattle.definition.specs.declared.Made.{Made}
 use Rattle.definition.specs.Module.{Native, row, moduleOf}
 use Rattle.definition.specs.Data.{slotCount, slotsFrom, readSlots}
-use Rattle.definition.specs.Outputs.{noCell, value, commonKinds, bitsMask, negation, withPredicate, withOrigin, constantCell, fieldCell, nativeCell, at, replyShape, constructedExtent, compositeCell, firstOutput, outputs}
+use Rattle.definition.specs.Outputs.{noCell, value, commonKinds, bitsMask, negation, withPredicate, withOrigin, constantCell, fieldCell, nativeCell, at, replyShape, constructedExtent, compositeCell, firstOutput, outputs, secondOutput, restOutput}
 use Rattle.definition.specs.Leaves.{always}
 use Rattle.layout.specs.declared.Chunk.{Chunk as ChunkNumbers}
 use Rattle.layout.specs.declared.Tables.{Tables}
 use Rattle.layout.specs.Layout.{resultAt, localAt}
 use Rattle.layout.specs.Indexed.{tablesOf, chunkAt, noNative}
 use Rattle.layout.proofs.Read.{locals-is, slots-are, natives-are, float-is}
-use Rattle.visit.specs.declared.Visit.{Visit as Look}
+use Rattle.visit.specs.declared.RowVisit.{RowVisit}
 use Rattle.visit.specs.Held.{Looking, argsIn, factsIn, visitIn}
 use Rattle.visit.proofs.Visits.{args-are}
 use Rattle.new_values.specs.Making.{nativeBy}
 use Rattle.new_values.proofs.Making.{native-by}
-use Rattle.new_values.specs.results.Made.{secondBy, restBy}
 use Rattle.new_values.proofs.results.Made.{outputs-by}
 use Rattle.new_values.proofs.results.Made.{first-local as first-named}
 use Rattle.visit.proofs.operands.Parts.{code-is, facts-are, ins-is, rule-is}
@@ -70,7 +69,7 @@ module _ (s : List ℕ) (t : Tables) (e : t ≡ tablesOf s) (n : ℕ) where
       rw (native-past (moduleOf s .natives) n l, float-is s t e)
 
 -- ---- slots that no fault refuses are there
-module _ (s ws : List ℕ) (v : Look) (x : Looking s ws v) (t : Tables) (e : t ≡ tablesOf s) where
+module _ (s ws : List ℕ) (v : RowVisit) (x : Looking s ws v) (t : Tables) (e : t ≡ tablesOf s) where
   float-there : visitIn s ws v .code .float ≡ t .float
   float-there = rw (code-is s ws v) (sym (float-is s t e))
 
@@ -156,9 +155,9 @@ module _ (s ws : List ℕ) (v : Look) (x : Looking s ws v) (t : Tables) (e : t �
       ∙ sym (first-named (visitIn s ws v) (rw (← ins-is s ws v x) few)))
 
   -- ---- slots
-  pub slots-there : v .rule .makes ≡ Slots → always (visitIn s ws v) (v .height) ≡ 0 → v .ins .a + slotCount (v .ins) (v .rule .slots) ≤ t .slots
+  pub slots-there : v .rule .makes ≡ Slots → always (visitIn s ws v) ≡ 0 → v .ins .a + slotCount (v .ins) (v .rule .slots) ≤ t .slots
   slots-there m h =
-      let f = rw (code-is s ws v, ← ins-is s ws v x, ← rule-is s ws v x) at (always-parts (visitIn s ws v) (v .height) h .1) in
+      let f = rw (code-is s ws v, ← ins-is s ws v x, ← rule-is s ws v x) at (always-parts (visitIn s ws v) h .1) in
       omega (arith, slots-are s t e, named-end (moduleOf s) (v .ins) (v .rule .slots) named f)
     where
       named : namesSlots (v .rule .slots) ≡ true
@@ -173,8 +172,8 @@ module _ (s ws : List ℕ) (v : Look) (x : Looking s ws v) (t : Tables) (e : t �
       → _≡_ {A = Made}
       (record {
         first = first;
-        second = secondBy (v .rule .others) (v .ins) first (t .float);
-        rest = restBy (v .rule .others) first (t .float);
+        second = secondOutput (v .rule .others) (v .ins) first (t .float);
+        rest = restOutput (v .rule .others) first (t .float);
       })
       (outputs (visitIn s ws v))
   made-is first h =

@@ -18,25 +18,26 @@ use Rattle.words.proofs.RowLaws.{cellsAt-length, cellsAt-getD}
 use Rattle.definition.specs.Module.{siteOf, moduleOf}
 use Rattle.definition.specs.Form.{fits, fitOf, local, callee}
 use Rattle.definition.specs.Outputs.{noCell, replyShape, replyCell}
-use Rattle.definition.specs.Leaves.{visitOf}
+use Rattle.definition.specs.Leaves.{visitOf, lineAt}
 use Rattle.definition.specs.Start.{isSite}
-use Rattle.form_laws.specs.Good.{LineGood, chunkNo, lineNo}
+use Rattle.form_laws.specs.Good.{LineGood, chunkNo}
 use Rattle.form_laws.proofs.Each.{row-at}
 use Rattle.layout.specs.declared.Chunk.{Chunk as ChunkNumbers}
-use Rattle.layout.specs.Layout.{resultAt, localAt}
+use Rattle.layout.specs.Layout.{resultAt, localAt, localsAt}
 use Rattle.layout.specs.Indexed.{chunkAt, suspendsAt}
 use Rattle.layout.proofs.Apart.{local-in}
 use Rattle.layout.proofs.Read.{field-small, stack-is, locals-is, site-is}
-use Rattle.visit.specs.declared.Visit.{Visit as Look}
+use Rattle.visit.specs.declared.RowVisit.{RowVisit}
 use Rattle.visit.specs.Held.{Looking, knownIn, factsIn, stateOf, visitIn}
 use Rattle.rule_laws.proofs.Told.{makes-local, makes-reply, makes-result, sets-local, yields, call-is, call-callee}
+use Rattle.ops.specs.Numbers.{opCall, opGetLocal, opSetLocal, opYield}
 
 -- ---- the instruction's meaning
-local-meant : (op : ℕ) → op ≡ 1 → fitOf op .meaning ≡ local
+local-meant : (op : ℕ) → op ≡ opGetLocal → fitOf op .meaning ≡ local
 unfolding fitOf fits
 local-meant op e = rw e
 
-set-meant : (op : ℕ) → op ≡ 2 → fitOf op .meaning ≡ local
+set-meant : (op : ℕ) → op ≡ opSetLocal → fitOf op .meaning ≡ local
 unfolding fitOf fits
 set-meant op e = rw e
 
@@ -50,17 +51,17 @@ reply-there s p h = go (hasSite s p) h
     go true h = refl
     go false h = cc
 
-module _ (s ws : List ℕ) (v : Look) (x : Looking s ws v) where
+module _ (s ws : List ℕ) (v : RowVisit) (x : Looking s ws v) where
   pub field-room : v .field < 1048576
   field-room = omega (arith, x .field, field-small s (v .chunk) (x .chunk) (v .at) (x .at), x .indexed .good .long)
 
-  line-good : LineGood (moduleOf s) (chunkNo (moduleOf s) (v .chunk)) (lineNo (chunkNo (moduleOf s) (v .chunk)) (v .at))
+  line-good : LineGood (moduleOf s) (chunkNo (moduleOf s) (v .chunk)) (lineAt (chunkNo (moduleOf s) (v .chunk)) (v .at))
   line-good = x .indexed .good .eachChunk (v .chunk) (x .chunk) .lines (v .at) (x .at)
 
-  same-a : v .ins .a ≡ lineNo (chunkNo (moduleOf s) (v .chunk)) (v .at) .instr .a
+  same-a : v .ins .a ≡ lineAt (chunkNo (moduleOf s) (v .chunk)) (v .at) .instr .a
   same-a = ap (λ (i : Instr). i .a) (x .ins)
 
-  op-is : v .ins .op ≡ lineNo (chunkNo (moduleOf s) (v .chunk)) (v .at) .instr .op
+  op-is : v .ins .op ≡ lineAt (chunkNo (moduleOf s) (v .chunk)) (v .at) .instr .op
   op-is = ap (λ (i : Instr). i .op) (x .ins)
 
   -- ---- what its rule says of its operand a, and of its site
@@ -74,7 +75,7 @@ module _ (s ws : List ℕ) (v : Look) (x : Looking s ws v) where
       let o = sets-local (v .ins .op) (ap (λ (r : Rule). r .acts) (sym (x .rule)) ∙ e) in
       omega (arith, same-a, line-good .local (set-meant _ (sym op-is ∙ o)))
 
-  callee-there : v .ins .op ≡ 30 → v .ins .a < moduleOf s .signatures
+  callee-there : v .ins .op ≡ opCall → v .ins .a < moduleOf s .signatures
   callee-there o = omega (arith, same-a, line-good .callee (call-callee _ (sym op-is ∙ o)))
 
   -- a callee is one of the chunks
@@ -87,7 +88,7 @@ module _ (s ws : List ℕ) (v : Look) (x : Looking s ws v) where
   pub callee-called : v .rule .acts ≡ Calls → v .ins .a < moduleOf s .signatures
   callee-called e = callee-there (call-is (v .ins .op) (ap (λ (r : Rule). r .acts) (sym (x .rule)) ∙ e))
 
-  site-replies : v .ins .op ≡ 32 → replyShape (replyOf s (v .field)) ≡ replyCell (visitIn s ws v .line .site)
+  site-replies : v .ins .op ≡ opYield → replyShape (replyOf s (v .field)) ≡ replyCell (visitIn s ws v .line .site)
   unfolding visitIn visitOf
   site-replies o =
       let p = site-is s (v .chunk) (x .chunk) (v .at) (x .at) ∙ ap (siteOf s) (sym (x .field)) in
@@ -145,7 +146,7 @@ module _ (s ws : List ℕ) (v : Look) (x : Looking s ws v) where
     pub local-there : (k : ℕ) → k < ch .locals → cellAt ws (localAt (v .row) (ch .stack) k) ≡ getD (visitIn s ws v .locals) k noCell
     unfolding visitIn visitOf stateOf
     local-there k h =
-        let at = v .row + 96 + 16 * chunkNo (moduleOf s) (v .chunk) .stack in
+        let at = localsAt (v .row) (chunkNo (moduleOf s) (v .chunk) .stack) in
         let a : localAt (v .row) (ch .stack) k ≡ at + 16 * k = omega (arith, stack-is s ws (v .chunk) ch e) in
         ap (cellAt ws) a
         ∙ sym (cellsAt-getD ws at (chunkNo (moduleOf s) (v .chunk) .locals) k noCell (omega (arith, locals-is s ws (v .chunk) ch e)))
@@ -153,6 +154,6 @@ module _ (s ws : List ℕ) (v : Look) (x : Looking s ws v) where
     pub local-none : (k : ℕ) → ch .locals ≤ k → noCell ≡ getD (visitIn s ws v .locals) k noCell
     unfolding visitIn visitOf stateOf
     local-none k h =
-        let at = v .row + 96 + 16 * chunkNo (moduleOf s) (v .chunk) .stack in
+        let at = localsAt (v .row) (chunkNo (moduleOf s) (v .chunk) .stack) in
         let n = chunkNo (moduleOf s) (v .chunk) .locals in
         sym (List·getD-eq-default (cellsAt ws at n) noCell {n = k} (omega (arith, locals-is s ws (v .chunk) ch e, cellsAt-length ws at n)))

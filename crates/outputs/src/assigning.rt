@@ -4,13 +4,13 @@ use cells::Cell;
 use flows::Origin;
 use index::chunk_at;
 use layout::Chunk;
-use layout::NONE;
+use layout::NO_LOCAL;
 use layout::local_at;
 use masks::Mask;
 use new_values::with_origin;
 use ops::Acts;
 use row_join::SetLocal;
-use visit::Visit;
+use visit::RowVisit;
 use visit::operand;
 use words::load;
 ghost use mathlib.Core.Path.{_≡_};
@@ -27,20 +27,20 @@ ghost use Rattle.definition.specs.Outputs.{noCell, withOrigin, replyShape, sets
 ghost use Rattle.definition.specs.Leaves.{always};
 ghost use Rattle.layout.specs.Indexed.{chunkAt};
 ghost use Rattle.visit.specs.Held.{Looking, visitIn};
-ghost use Rattle.row_join.specs.places.Arrive.{nowhere};
+ghost use Rattle.row_join.specs.places.Arrive.{noLocal};
 ghost use Rattle.row_join.specs.joining.Met.{SetAs};
 
 fn set_none() -> SetLocal
-    ensures { λ r. ⌜ r .local ≡ nowhere ⌝ }
+    ensures { λ r. ⌜ r .local ≡ noLocal ⌝ }
 {
     SetLocal {
-        local: NONE,
+        local: NO_LOCAL,
         cell: Cell::unit(),
     }
 }
 
 // `SetLocal`: what names the local is forgotten, in the value too.
-fn set_by_value(v: Visit, value: Cell) -> SetLocal
+fn set_by_value(v: RowVisit, value: Cell) -> SetLocal
     ensures { λ r. ⌜
         (r .local ≡ v .ins .a % 65536) × (r .cell ≡ withOrigin (invalidatedCell value (v .ins .a % 65536)) Nowhere)
         ⌝ }
@@ -55,7 +55,7 @@ fn set_by_value(v: Visit, value: Cell) -> SetLocal
 }
 
 // The first local, or a cell of no kind where the chunk has none.
-fn first_local(s: &[u8], ws: &[u32], ch: Chunk, v: Visit) -> Cell
+fn first_local(s: &[u8], ws: &[u32], ch: Chunk, v: RowVisit) -> Cell
     requires { ⌜ Looking (now s) (now ws) v ⌝ }
     requires { ⌜ ch ≡ chunkAt (now s) (now ws) (v .chunk) ⌝ }
     ensures { λ r. ⌜ r ≡ getD (visitIn (now (s .entry)) (now (ws .entry)) v .locals) 0 noCell ⌝ }
@@ -67,7 +67,7 @@ fn first_local(s: &[u8], ws: &[u32], ch: Chunk, v: Visit) -> Cell
 }
 
 // A call of a chunk that suspends, in a streaming entry: its first local may be any reply.
-fn set_by_call(s: &[u8], ws: &[u32], ch: Chunk, v: Visit) -> SetLocal
+fn set_by_call(s: &[u8], ws: &[u32], ch: Chunk, v: RowVisit) -> SetLocal
     requires { ⌜ Looking (now s) (now ws) v ⌝ }
     requires { ⌜ ch ≡ chunkAt (now s) (now ws) (v .chunk) ⌝ }
     requires { ⌜ v .ins .a < length (moduleOf (now s) .chunks) ⌝ }
@@ -85,7 +85,7 @@ fn set_by_call(s: &[u8], ws: &[u32], ch: Chunk, v: Visit) -> SetLocal
     set_none()
 }
 
-fn set_by_yield(s: &[u8], ch: Chunk, v: Visit) -> SetLocal
+fn set_by_yield(s: &[u8], ch: Chunk, v: RowVisit) -> SetLocal
     requires { ⌜ v .field < 2 ^ 61 ⌝ }
     ensures { λ r. ⌜ SetAs (cond (ch .streams) (sets 0 (replyShape (replyOf (now (s .entry)) (v .field)))) none) r ⌝ }
 {
@@ -99,10 +99,10 @@ fn set_by_yield(s: &[u8], ch: Chunk, v: Visit) -> SetLocal
 }
 
 // The local that the visit sets. At a `Yield` of a streaming entry the first local is the reply.
-pub fn set_local(s: &[u8], ws: &[u32], ch: Chunk, v: Visit) -> SetLocal
+pub fn set_local(s: &[u8], ws: &[u32], ch: Chunk, v: RowVisit) -> SetLocal
     requires { ⌜ Looking (now s) (now ws) v ⌝ }
     requires { ⌜ ch ≡ chunkAt (now s) (now ws) (v .chunk) ⌝ }
-    requires { ⌜ always (visitIn (now s) (now ws) v) (v .height) ≡ 0 ⌝ }
+    requires { ⌜ always (visitIn (now s) (now ws) v) ≡ 0 ⌝ }
     ensures { λ r. ⌜ SetAs (setting (visitIn (now (s .entry)) (now (ws .entry)) v) (v .rule .acts)) r ⌝ }
 {
     let rule = v.rule;

@@ -1,4 +1,4 @@
-// The outputs of a visit.
+// The outputs of a visit, and the local that it sets (`assigning`).
 mod assigning;
 
 pub use assigning::set_local;
@@ -29,9 +29,9 @@ use new_values::with_predicate;
 use ops::Makes;
 use packing::construction;
 use slots::read_slots;
-use visit::Visit;
+use visit::RowVisit;
 use visit::common_kinds;
-pub use visit::constructed_at;
+use visit::constructed_at;
 use visit::operand;
 use visit::operand_mask;
 use visit::slots_of;
@@ -53,7 +53,7 @@ ghost use Rattle.layout.specs.Layout.{localAt, resultAt};
 ghost use Rattle.layout.specs.Indexed.{Indexed, tablesOf, chunkAt};
 ghost use Rattle.visit.specs.Held.{Looking, factsIn, visitIn};
 
-fn composite_cell(s: &[u8], ws: &[u32], t: Tables, v: Visit) -> Cell
+fn composite_cell(s: &[u8], ws: &[u32], t: Tables, v: RowVisit) -> Cell
     requires { ⌜ Looking (now s) (now ws) v ⌝ }
     requires { ⌜ t ≡ tablesOf (now s) ⌝ }
     ensures { λ r. ⌜ r ≡ compositeCell (visitIn (now (s .entry)) (now (ws .entry)) v) ⌝ }
@@ -66,7 +66,7 @@ fn composite_cell(s: &[u8], ws: &[u32], t: Tables, v: Visit) -> Cell
     Cell::made(Mask::body(kind), t.float)
 }
 
-fn local_cell(ws: &[u32], ch: Chunk, v: Visit) -> Cell
+fn local_cell(ws: &[u32], ch: Chunk, v: RowVisit) -> Cell
     requires { ⌜ localAt (v .row) (ch .stack) (v .ins .a) + 16 ≤ length (now ws) ⌝ }
     requires { ⌜ localAt (v .row) (ch .stack) (v .ins .a) < 2 ^ 63 ⌝ }
     ensures { λ r. ⌜ r ≡ withOrigin (cellAt (now (ws .entry)) (localAt (v .row) (ch .stack) (v .ins .a))) (Local (v .ins .a % 65536)) ⌝ }
@@ -76,7 +76,7 @@ fn local_cell(ws: &[u32], ch: Chunk, v: Visit) -> Cell
     with_origin(c, Origin::Local((ins.a % 65536) as u16))
 }
 
-fn native_at(s: &[u8], t: Tables, v: Visit) -> Cell
+fn native_at(s: &[u8], t: Tables, v: RowVisit) -> Cell
     requires { ⌜ Good (now s) (wordsOf (moduleOf (now s))) ⌝ }
     requires { ⌜ t ≡ tablesOf (now s) ⌝ }
     ensures { λ r. ⌜ r ≡ nativeCell (at (moduleOf (now (s .entry)) .natives) (v .ins .a)) (moduleOf (now (s .entry)) .float) ⌝ }
@@ -89,7 +89,7 @@ fn native_at(s: &[u8], t: Tables, v: Visit) -> Cell
     Cell::made(Mask::UNKNOWN, t.float)
 }
 
-pub fn reply_cell(s: &[u8], v: Visit) -> Cell
+pub fn reply_cell(s: &[u8], v: RowVisit) -> Cell
     requires { ⌜ v .field < 2 ^ 61 ⌝ }
     ensures { λ r. ⌜ r ≡ replyShape (replyOf (now (s .entry)) (v .field)) ⌝ }
 {
@@ -113,7 +113,7 @@ fn negated_cell(first: Cell, float: u32) -> Cell
     with_predicate(Cell::made(negation(first.mask), float), p.negated())
 }
 
-fn result_cell(s: &[u8], ws: &[u32], v: Visit) -> Cell
+fn result_cell(s: &[u8], ws: &[u32], v: RowVisit) -> Cell
     requires { ⌜ Indexed (now s) (now ws) ⌝ }
     requires { ⌜ v .ins .a < length (moduleOf (now s) .chunks) ⌝ }
     ensures { λ r. ⌜ r ≡ cellAt (now (ws .entry)) (resultAt (moduleOf (now (s .entry))) (v .ins .a)) ⌝ }
@@ -122,7 +122,7 @@ fn result_cell(s: &[u8], ws: &[u32], v: Visit) -> Cell
     load(ws, result_at(chunk_at(s, ws, ins.a as usize)))
 }
 
-fn slots_cell(s: &[u8], ws: &[u32], t: Tables, v: Visit) -> Cell
+fn slots_cell(s: &[u8], ws: &[u32], t: Tables, v: RowVisit) -> Cell
     requires { ⌜ Indexed (now s) (now ws) ⌝ }
     requires { ⌜ t ≡ tablesOf (now s) ⌝ }
     requires { ⌜ v .ins .a + slotCount (v .ins) (v .rule .slots) ≤ t .slots ⌝ }
@@ -136,11 +136,11 @@ fn slots_cell(s: &[u8], ws: &[u32], t: Tables, v: Visit) -> Cell
 }
 
 // The first output of a visit that nothing refuses whatever the mode.
-fn first_output(s: &[u8], ws: &[u32], t: Tables, ch: Chunk, v: Visit) -> Cell
+fn first_output(s: &[u8], ws: &[u32], t: Tables, ch: Chunk, v: RowVisit) -> Cell
     requires { ⌜ Looking (now s) (now ws) v ⌝ }
     requires { ⌜ t ≡ tablesOf (now s) ⌝ }
     requires { ⌜ ch ≡ chunkAt (now s) (now ws) (v .chunk) ⌝ }
-    requires { ⌜ always (visitIn (now s) (now ws) v) (v .height) ≡ 0 ⌝ }
+    requires { ⌜ always (visitIn (now s) (now ws) v) ≡ 0 ⌝ }
     ensures { λ r. ⌜ r ≡ firstOutput (visitIn (now (s .entry)) (now (ws .entry)) v) (v .rule .makes) ⌝ }
 {
     let ins = v.ins;
@@ -170,11 +170,11 @@ fn first_output(s: &[u8], ws: &[u32], t: Tables, ch: Chunk, v: Visit) -> Cell
 }
 
 // All outputs of the visit.
-pub fn made_at(s: &[u8], ws: &[u32], t: Tables, ch: Chunk, v: Visit) -> Made
+pub fn made_at(s: &[u8], ws: &[u32], t: Tables, ch: Chunk, v: RowVisit) -> Made
     requires { ⌜ Looking (now s) (now ws) v ⌝ }
     requires { ⌜ t ≡ tablesOf (now s) ⌝ }
     requires { ⌜ ch ≡ chunkAt (now s) (now ws) (v .chunk) ⌝ }
-    requires { ⌜ always (visitIn (now s) (now ws) v) (v .height) ≡ 0 ⌝ }
+    requires { ⌜ always (visitIn (now s) (now ws) v) ≡ 0 ⌝ }
     ensures { λ r. ⌜ r ≡ outputs (visitIn (now (s .entry)) (now (ws .entry)) v) ⌝ }
 {
     let rule = v.rule;

@@ -6,8 +6,9 @@ use lib.Dec.{eqb, ltb}
 use lib.Count.{trailingZeros}
 use lib.ListN.{set}
 use Rattle.masks.specs.declared.Mask.{Mask}
-use Rattle.masks.specs.Mask.{of, body, kind, has}
+use Rattle.masks.specs.Mask.{body, kind, has}
 use Rattle.masks.specs.Mask.{within as inside}
+use Rattle.masks.specs.Names.{UNIT, FALSE, BYTE, WORD, FIXED, FLOAT, OPAQUE, TUPLE, ARRAY, STRUCT, ENUM, PACKED}
 use Rattle.extents.specs.declared.BodyExtent.{BodyExtent}
 use Rattle.extents.specs.declared.BodyExtent.the-variants.{Absent, Range, Unknown}
 use Rattle.extents.specs.declared.Extent.{Extent}
@@ -30,12 +31,12 @@ pub record Sized : Type 0 where
   pub one : Mask
   pub bytes : ℕ
 
-abbrev pub sized : ℕ → ℕ → Sized
-sized m n = record { one = of m; bytes = n }
+abbrev pub sized : Mask → ℕ → Sized
+sized m n = record { one = m; bytes = n }
 
 abbrev pub scalarSizes : ℕ → ℕ → List Sized
 scalarSizes float handle =
-    sized 1 0 ∷ sized 2 1 ∷ sized 4 1 ∷ sized 8 8 ∷ sized 16 8 ∷ sized 32 float ∷ sized 128 handle ∷ []
+    sized UNIT 0 ∷ sized FALSE 1 ∷ sized BYTE 1 ∷ sized WORD 8 ∷ sized FIXED 8 ∷ sized FLOAT float ∷ sized OPAQUE handle ∷ []
 
 abbrev pub scalarsOf : Mask → List Sized → Packed → Packed
 scalarsOf m [] s = s
@@ -53,18 +54,18 @@ spanBody s present Unknown = cond present Nothing s
 abbrev pub bodySpan : Packed → Bool → Extent → Packed
 bodySpan s present x = spanBody s present (x .body)
 
-abbrev pub bodiesOf : Mask → List ℕ → List Extent → Packed → Packed
+abbrev pub bodiesOf : Mask → List Mask → List Extent → Packed → Packed
 bodiesOf m [] xs s = s
 bodiesOf m (n ∷ ns) [] s = s
-bodiesOf m (n ∷ ns) (x ∷ xs) s = bodiesOf m ns xs (bodySpan s (has m (of n)) x)
+bodiesOf m (n ∷ ns) (x ∷ xs) s = bodiesOf m ns xs (bodySpan s (has m n) x)
 
-abbrev pub bodyKinds : List ℕ
-bodyKinds = 256 ∷ 512 ∷ 1024 ∷ 2048 ∷ []
+abbrev pub bodyKinds : List Mask
+bodyKinds = TUPLE ∷ ARRAY ∷ STRUCT ∷ ENUM ∷ []
 
 -- one operand: none if it may be of no kind, or of a kind that can't be packed
 unfoldable pub packedOne : Cell → ℕ → ℕ → Packed
 packedOne c float handle =
-    cond (eqb (kind (c .mask) .bits) 0 || not (inside (kind (c .mask)) (of 4031)))
+    cond (eqb (kind (c .mask) .bits) 0 || not (inside (kind (c .mask)) PACKED))
     Nothing
     (bodiesOf (kind (c .mask)) bodyKinds (c .flow .bodies) (scalarSpan (kind (c .mask)) float handle))
 

@@ -11,7 +11,6 @@ use flows::Origin;
 use flows::Owned;
 use flows::Predicate;
 use masks::Mask;
-use widths::Width;
 
 // The least and the largest packed size, or that there is none.
 pub enum Packed {
@@ -84,7 +83,7 @@ pub fn packed_one(cell: Cell, float: u32, handle: u32) -> Packed
     let flow = cell.flow;
     let bodies = flow.bodies;
     let s = body_spans(tag, bodies, scalar_span(tag, float, handle));
-    if (tag.bits == 0) | !tag.within(Mask { bits: 4031 }) {
+    if (tag.bits == 0) | !tag.within(Mask::PACKED) {
         return Packed::Nothing;
     }
     s

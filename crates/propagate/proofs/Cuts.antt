@@ -18,37 +18,37 @@ use Rattle.words.proofs.RowLaws.{cellsAt-length, cellsAt-getD}
 use Rattle.definition.specs.Outputs.{noCell}
 use Rattle.definition.specs.Ways.{narrowing, onWay}
 use Rattle.layout.specs.declared.Chunk.{Chunk}
-use Rattle.layout.specs.Layout.{localAt}
-use Rattle.row_join.specs.places.Arrive.{nowhere}
+use Rattle.layout.specs.Layout.{localAt, localsAt}
+use Rattle.row_join.specs.places.Arrive.{noLocal}
 use Rattle.row_join.specs.declared.joining.Leaving.{Leaving}
-use Rattle.visit.specs.declared.Visit.{Visit}
+use Rattle.visit.specs.declared.RowVisit.{RowVisit}
 use Rattle.ways.specs.declared.Narrows.{Narrows}
 use Rattle.ways.specs.declared.Narrows.the-variants.{Nothing, Local}
 use Rattle.ways.specs.Ways.{receiver}
-use Rattle.propagate.specs.Passing.{localsOf, leavesWith, alongIn, condition, passes}
+use Rattle.propagate.specs.Passing.{localsOf, leavesWith, alongIn, condition, passes, narrowedIn}
 use Rattle.propagate.specs.Steps.{mayBe, cutIn, localOn}
 
-module _ (ws : List ℕ) (ch : Chunk) (v : Visit) where
+module _ (ws : List ℕ) (ch : Chunk) (v : RowVisit) where
   pub may-there : (r : ℕ) → r < ch .locals → has (cellAt ws (localAt (v .row) (ch .stack) r) .mask) ENUM ≡ mayBe ws ch v r
   may-there r h =
-      let e : localAt (v .row) (ch .stack) r ≡ v .row + 96 + 16 * ch .stack + 16 * r = omega arith in
-      ap (λ (c : Cell). has (c .mask) ENUM) (ap (cellAt ws) e ∙ sym (cellsAt-getD ws (v .row + 96 + 16 * ch .stack) (ch .locals) r noCell h))
+      let e : localAt (v .row) (ch .stack) r ≡ localsAt (v .row) (ch .stack) + 16 * r = omega arith in
+      ap (λ (c : Cell). has (c .mask) ENUM) (ap (cellAt ws) e ∙ sym (cellsAt-getD ws (localsAt (v .row) (ch .stack)) (ch .locals) r noCell h))
 
   -- what is no local is no enum
   pub may-none : (r : ℕ) → ch .locals ≤ r → false ≡ mayBe ws ch v r
   unfolding noCell made
   may-none r h =
       ap (λ (c : Cell). has (c .mask) ENUM)
-      (sym (List·getD-eq-default (localsOf ws ch v) noCell {n = r} (omega (arith, cellsAt-length ws (v .row + 96 + 16 * ch .stack) (ch .locals)))))
+      (sym (List·getD-eq-default (localsOf ws ch v) noCell {n = r} (omega (arith, cellsAt-length ws (localsAt (v .row) (ch .stack)) (ch .locals)))))
 
   -- ---- what passes to `to`, by the code's narrowing
   module _ (l : Leaving) (to : ℕ) where
-    passes-by : (n : Narrows) → receiver n ≡ narrowing (v .rule .exit) (condition ws v .flow .predicate) (v .ins .a) to
+    passes-by : (n : Narrows) → receiver n ≡ narrowedIn ws v to
         → passes ws ch v l to ≡ onWay to (alongIn ws ch v l (receiver n)) []
     unfolding passes
     passes-by n e = rw e
 
-    pub cut-passes : (n : Narrows) → receiver n ≡ narrowing (v .rule .exit) (condition ws v .flow .predicate) (v .ins .a) to
+    pub cut-passes : (n : Narrows) → receiver n ≡ narrowedIn ws v to
         → cutIn ws ch v n ≡ true → passes ws ch v l to ≡ []
     unfolding alongIn onWay
     cut-passes Nothing e c = let z : _≡_ {A = ℕ} 0 1 = cc in absurd (omega arith)
@@ -56,7 +56,7 @@ module _ (ws : List ℕ) (ch : Chunk) (v : Visit) where
         passes-by (Local r) e
         ∙ ap (λ (b : Bool). onWay to (cond b (some (leavesWith ws ch v l r)) none) []) (not-true (mayBe ws ch v r) c)
 
-    pub on-passes : (n : Narrows) → receiver n ≡ narrowing (v .rule .exit) (condition ws v .flow .predicate) (v .ins .a) to
+    pub on-passes : (n : Narrows) → receiver n ≡ narrowedIn ws v to
         → cutIn ws ch v n ≡ false → passes ws ch v l to ≡ (to, leavesWith ws ch v l (localOn n)) ∷ []
     unfolding alongIn onWay
     on-passes Nothing e c = passes-by Nothing e
@@ -65,7 +65,7 @@ module _ (ws : List ℕ) (ch : Chunk) (v : Visit) where
         ∙ ap (λ (b : Bool). onWay to (cond b (some (leavesWith ws ch v l r)) none) []) (not-false (mayBe ws ch v r) c)
 
   -- the local that is narrowed is one
-  pub on-local : (n : Narrows) → cutIn ws ch v n ≡ false → (localOn n ≡ nowhere) ⊎ (localOn n < ch .locals)
+  pub on-local : (n : Narrows) → cutIn ws ch v n ≡ false → (localOn n ≡ noLocal) ⊎ (localOn n < ch .locals)
   on-local Nothing c = inl refl
   on-local (Local r) c = inr (go (ltb r (ch .locals)) refl)
     where

@@ -30,16 +30,16 @@ use Rattle.row_join.specs.declared.joining.Leaving.{Leaving}
 use Rattle.row_join.specs.declared.joining.Way.{Way}
 use Rattle.row_join.specs.declared.joining.Met.{Met}
 use Rattle.row_join.specs.declared.joining.Met.the-variants.{Same, Changed, Unequal}
-use Rattle.row_join.specs.joining.Leave.{Ready, leavesAs, stateIn, metState, metHow, metWord, rowWords}
+use Rattle.row_join.specs.joining.Leave.{JoinReady, leavesAs, stateIn, metState, metHow, metWord, rowWords}
 use Rattle.row_join.proofs.joining.Joined.{metPut, put-met, same-stays, state-wide, leaves-wide}
-use Rattle.visit.specs.declared.Visit.{Visit}
+use Rattle.visit.specs.declared.RowVisit.{RowVisit}
 use Rattle.run_state.specs.Course.{statesIn, roomIn, workIn, Low, Queued, RowsOnly}
 use Rattle.run_state.proofs.Rows.{stateAt, SameRow, states-length, states-at, states-set, low-set, rows-only-trans}
 use Rattle.run_state.proofs.Queues.{queue-length, queue-kept, queued-kept, push-rows-only, push-states, push-low, queued-push}
 use Rattle.propagate.specs.declared.Went.{Went}
 use Rattle.propagate.specs.declared.Went.the-variants.{On, Stop}
 use Rattle.propagate.specs.Passing.{leavesWith, Passed}
-use Rattle.propagate.specs.Steps.{Enqueued, wayAt, Open, Stands, Beside}
+use Rattle.propagate.specs.Steps.{Enqueued, wayAt, Open, PassReady, Beside}
 
 -- ---- a write to a row that keeps its second word keeps the index
 steady-around : (m : Module) (at len : ℕ) (ws v : List ℕ) → Free m at 1 → Free m (at + 2) len → length v ≡ length ws
@@ -75,8 +75,8 @@ unfolding metWord
 met-low zero height stack a b = omega arith
 met-low (suc w) height stack a b = a
 
-pub open-leave : (ws : List ℕ) (t : Tables) (ch : Chunk) (v : Visit) (l : Leaving) (q : Queue) (to narrow : ℕ) → Open ws t ch v l q to narrow
-    → (p : ℕ) → p ≡ ch .rows + to * ch .size → Ready ws ch (wayAt v p narrow) l
+pub open-leave : (ws : List ℕ) (t : Tables) (ch : Chunk) (v : RowVisit) (l : Leaving) (q : Queue) (to narrow : ℕ) → Open ws t ch v l q to narrow
+    → (p : ℕ) → p ≡ ch .rows + to * ch .size → JoinReady ws ch (wayAt v p narrow) l
 open-leave ws t ch v l q to narrow o p e = rw e (o .leave)
 
 -- what `leave` says
@@ -93,7 +93,7 @@ low-at : (s ws : List ℕ) (n i : ℕ) → Low s ws n → i < length (chunkNo (m
 unfolding Low
 low-at s ws n i low l = low i l
 
-module _ (s ws : List ℕ) (t : Tables) (ch : Chunk) (v : Visit) (l : Leaving) (q : Queue) (x : Stands s ws t ch v l q) (to : ℕ) (h : to < ch .count) where
+module _ (s ws : List ℕ) (t : Tables) (ch : Chunk) (v : RowVisit) (l : Leaving) (q : Queue) (x : PassReady s ws t ch v l q) (to : ℕ) (h : to < ch .count) where
   known : Row s ws (v .chunk) ch to
   known = row-known s ws (v .chunk) ch to (x .looking .indexed) (x .looking .chunk) (x .chunk) h
 

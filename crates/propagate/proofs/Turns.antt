@@ -11,7 +11,7 @@ use lib.Dec.{leb}
 use lib.ListN.{length}
 use Rattle.cells.specs.declared.Cell.{Cell}
 use Rattle.ring.specs.declared.Queue.{Queue}
-use Rattle.ring.specs.Ring.{Ready as QueueReady}
+use Rattle.ring.specs.Ring.{QueueReady}
 use Rattle.definition.specs.Res.{ok, bind}
 use Rattle.definition.specs.Machine.{putIn, put, puts}
 use Rattle.definition.specs.Module.{moduleOf}
@@ -24,10 +24,10 @@ use Rattle.layout.specs.Layout.{rowAt}
 use Rattle.layout.specs.Indexed.{tablesOf, chunkAt}
 use Rattle.layout.proofs.Read.{Row, row-known, count-is, stack-is, locals-is}
 use Rattle.layout.proofs.Apart.{by-order, row-apart}
-use Rattle.row_join.specs.places.Arrive.{nowhere}
+use Rattle.row_join.specs.places.Arrive.{noLocal}
 use Rattle.row_join.specs.declared.joining.Leaving.{Leaving}
-use Rattle.row_join.specs.joining.Leave.{Ready, rowWords}
-use Rattle.visit.specs.declared.Visit.{Visit}
+use Rattle.row_join.specs.joining.Leave.{JoinReady, rowWords}
+use Rattle.visit.specs.declared.RowVisit.{RowVisit}
 use Rattle.visit.specs.Held.{Looking}
 use Rattle.visit.proofs.Visits.{row-there}
 use Rattle.run_state.specs.Course.{statesIn, roomIn, workIn, Low, Queued}
@@ -37,21 +37,11 @@ use Rattle.ways.specs.Ways.{receiver}
 use Rattle.masks.proofs.Both.{neither}
 use Rattle.propagate.specs.declared.Went.{Went}
 use Rattle.propagate.specs.declared.Went.the-variants.{On}
-use Rattle.propagate.specs.Passing.{Leaves, leavesWith, alongIn, condition, passes, Passed}
-use Rattle.propagate.specs.Steps.{cutIn, localOn, wayAt, Open, Stands, Beside}
+use Rattle.propagate.specs.Passing.{LeavesInRow, leavesWith, alongIn, condition, passes, Passed, narrowedIn}
+use Rattle.propagate.specs.Steps.{cutIn, localOn, wayAt, Open, PassReady, Beside}
 use Rattle.propagate.proofs.Cuts.{cut-passes, on-passes, on-local}
 
--- as the code's contract has it
-pub stands : (s ws : List ℕ) (t : Tables) (ch : Chunk) (v : Visit) (l : Leaving) (q : Queue)
-    → (Looking s ws v × ((t ≡ tablesOf s) × ((ch ≡ chunkAt s ws (v .chunk)) × (Low s ws (v .chunk) × (Queued s ws (v .chunk) q × Leaves ch v l)))))
-    → Stands s ws t ch v l q
-stands s ws t ch v l q (a, (b, (c, (d, (e, f))))) = record { looking = a; tables = b; chunk = c; low = d; queued = e; leaves = f }
-
-pub given : (s ws : List ℕ) (t : Tables) (ch : Chunk) (v : Visit) (l : Leaving) (q : Queue) → Stands s ws t ch v l q
-    → (Looking s ws v × ((t ≡ tablesOf s) × ((ch ≡ chunkAt s ws (v .chunk)) × (Low s ws (v .chunk) × (Queued s ws (v .chunk) q × Leaves ch v l)))))
-given s ws t ch v l q x = (x .looking, (x .tables, (x .chunk, (x .low, (x .queued, x .leaves)))))
-
-module _ (s ws : List ℕ) (t : Tables) (ch : Chunk) (v : Visit) (l : Leaving) (q : Queue) (x : Stands s ws t ch v l q) where
+module _ (s ws : List ℕ) (t : Tables) (ch : Chunk) (v : RowVisit) (l : Leaving) (q : Queue) (x : PassReady s ws t ch v l q) where
   size-eq : rowWords ch ≡ 16 * rowCells (chunkNo (moduleOf s) (v .chunk))
   size-eq = omega (arith, stack-is s ws (v .chunk) ch (x .chunk), locals-is s ws (v .chunk) ch (x .chunk))
 
@@ -81,9 +71,9 @@ module _ (s ws : List ℕ) (t : Tables) (ch : Chunk) (v : Visit) (l : Leaving) (
 
     past-passes : ch .count ≤ to → Passed s ws ws v q (passes ws ch v l to) (On q)
     unfolding passes
-    past-passes h = past h (alongIn ws ch v l (narrowing (v .rule .exit) (condition ws v .flow .predicate) (v .ins .a) to))
+    past-passes h = past h (alongIn ws ch v l (narrowedIn ws v to))
 
-    open-pass : (narrow : ℕ) → to < ch .count → (narrow ≡ nowhere) ⊎ (narrow < ch .locals) → Open ws t ch v l q to narrow
+    open-pass : (narrow : ℕ) → to < ch .count → (narrow ≡ noLocal) ⊎ (narrow < ch .locals) → Open ws t ch v l q to narrow
     open-pass narrow h k = record { leave = leave; queue = queue-ready; small = omega (arith, known .there, good .code) }
       where
         known : Row s ws (v .chunk) ch to
@@ -100,7 +90,7 @@ module _ (s ws : List ℕ) (t : Tables) (ch : Chunk) (v : Visit) (l : Leaving) (
             (λ o. inl (x .looking .row ∙ ap (rowAt (moduleOf s) (v .chunk)) o ∙ sym (known .at)))
             (λ o. inr (inr (omega (arith, size-eq, known .at, x .looking .row, row-apart (moduleOf s) (v .chunk) to (v .at) o))))
 
-        leave : Ready ws ch (wayAt v (ch .rows + to * ch .size) narrow) l
+        leave : JoinReady ws ch (wayAt v (ch .rows + to * ch .size) narrow) l
         leave =
             record {
               from = row-fits;
@@ -113,7 +103,7 @@ module _ (s ws : List ℕ) (t : Tables) (ch : Chunk) (v : Visit) (l : Leaving) (
             }
 
     module _ (n : Narrows) (y : Cell) (ye : y ≡ condition ws v) (e : receiver n ≡ narrowing (v .rule .exit) (y .flow .predicate) (v .ins .a) to) (b : Bool) (be : b ≡ cutIn ws ch v n) where
-      by : receiver n ≡ narrowing (v .rule .exit) (condition ws v .flow .predicate) (v .ins .a) to
+      by : receiver n ≡ narrowedIn ws v to
       by = e ∙ ap (λ (z : Cell). narrowing (v .rule .exit) (z .flow .predicate) (v .ins .a) to) ye
 
       pub none-pass : (b || leb (ch .count) to) ≡ true → Passed s ws ws v q (passes ws ch v l to) (On q) × Beside s v to ws ws
@@ -136,7 +126,7 @@ module _ (s ws : List ℕ) (t : Tables) (ch : Chunk) (v : Visit) (l : Leaving) (
           open-on = rw ke (open-pass (localOn n) inside (on-local ws ch v n uncut))
 
           pub one-pass : (u : List ℕ) (r : Went)
-              → ((s : List ℕ) → Stands s ws t ch v l q → to < ch .count
+              → ((s : List ℕ) → PassReady s ws t ch v l q → to < ch .count
               → Passed s ws u v q ((to, leavesWith ws ch v l k) ∷ []) r × Beside s v to ws u)
               → Passed s ws u v q (passes ws ch v l to) r × Beside s v to ws u
           one-pass u r g = rw (on-passes ws ch v l to n by uncut, ← ke) (g s x inside)

@@ -27,23 +27,23 @@ use Rattle.definition.specs.Ways.{branch, waysOf, narrowing, onWay}
 use Rattle.form_laws.specs.Good.{chunkNo, rowCells, wordsOf}
 use Rattle.layout.specs.declared.Chunk.{Chunk}
 use Rattle.layout.specs.declared.Tables.{Tables}
-use Rattle.layout.specs.Layout.{rowAt}
+use Rattle.layout.specs.Layout.{rowAt, localsAt, placeAt, stackAt}
 use Rattle.layout.proofs.Read.{stack-is, locals-is}
 use Rattle.layout.proofs.Apart.{areas-behind, result-begins, result-next, row-apart, row-in}
 use Rattle.layout.proofs.Kept.{indexed-steady, chunk-steady}
 use Rattle.row_join.specs.declared.joining.Leaving.{Leaving}
 use Rattle.row_join.specs.joining.Leave.{leavesKept, leavesReset, leavesAs}
-use Rattle.visit.specs.declared.Visit.{Visit}
+use Rattle.visit.specs.declared.RowVisit.{RowVisit}
 use Rattle.visit.specs.Held.{Looking, argsIn}
 use Rattle.run_state.specs.Course.{roomIn, workIn, RowsOnly}
 use Rattle.run_state.proofs.Rows.{SameWords, cells-kept, rows-only-trans}
 use Rattle.ways.specs.declared.Ways.{Ways}
-use Rattle.ways.specs.declared.Ways.the-variants.{Nowhere, One, Two}
+use Rattle.ways.specs.declared.Ways.the-variants.{Zero, One, Two}
 use Rattle.ways.specs.Ways.{targets}
 use Rattle.propagate.specs.declared.Went.{Went}
 use Rattle.propagate.specs.declared.Went.the-variants.{On, Stop}
-use Rattle.propagate.specs.Passing.{localsOf, leavesWith, alongIn, condition, passes, passesAll, waysIn, Passed}
-use Rattle.propagate.specs.Steps.{Stands, Beside}
+use Rattle.propagate.specs.Passing.{localsOf, leavesWith, alongIn, condition, passes, passesAll, waysIn, Passed, narrowedIn}
+use Rattle.propagate.specs.Steps.{PassReady, Beside}
 use Rattle.propagate.proofs.Turns.{still}
 
 -- ---- of two ways, the first leads on
@@ -72,19 +72,19 @@ way-first cap w to (some y) os = go (put join cap w (to, y))
     go (ok v) = refl
     go (bad n) = refl
 
-module _ (s ws : List ℕ) (t : Tables) (ch : Chunk) (v : Visit) (l : Leaving) (q : Queue) (x : Stands s ws t ch v l q) where
+module _ (s ws : List ℕ) (t : Tables) (ch : Chunk) (v : RowVisit) (l : Leaving) (q : Queue) (x : PassReady s ws t ch v l q) where
   -- ---- words that agree on the row of the visit and the reply
   module _ (w : List ℕ) (row : SameWords ws w (v .row) (16 * rowCells (chunkNo (moduleOf s) (v .chunk)))) (reply : (j : ℕ) → j < 16 → getD w j 0 ≡ getD ws j 0) where
     args-same : argsIn w v ≡ argsIn ws v
     unfolding argsIn
     args-same =
-        cells-kept ws w (v .row) _ row (v .row + 96 + 16 * v .start) (v .height - v .start) (omega arith) (omega (arith, x .looking .start, x .looking .low))
+        cells-kept ws w (v .row) _ row (placeAt (v .row) (v .start)) (v .height - v .start) (omega arith) (omega (arith, x .looking .start, x .looking .low))
 
     locals-same : localsOf w ch v ≡ localsOf ws ch v
-    locals-same = cells-kept ws w (v .row) _ row (v .row + 96 + 16 * ch .stack) (ch .locals) (omega arith) (omega (arith, stack-is s ws (v .chunk) ch (x .chunk), locals-is s ws (v .chunk) ch (x .chunk)))
+    locals-same = cells-kept ws w (v .row) _ row (localsAt (v .row) (ch .stack)) (ch .locals) (omega arith) (omega (arith, stack-is s ws (v .chunk) ch (x .chunk), locals-is s ws (v .chunk) ch (x .chunk)))
 
-    below-same : cellsAt w (v .row + 96) (v .start) ≡ cellsAt ws (v .row + 96) (v .start)
-    below-same = cells-kept ws w (v .row) _ row (v .row + 96) (v .start) (omega arith) (omega (arith, x .looking .start, x .looking .low))
+    below-same : cellsAt w (stackAt (v .row)) (v .start) ≡ cellsAt ws (stackAt (v .row)) (v .start)
+    below-same = cells-kept ws w (v .row) _ row (stackAt (v .row)) (v .start) (omega arith) (omega (arith, x .looking .start, x .looking .low))
 
     reply-same : cellAt w 0 ≡ cellAt ws 0
     reply-same = cellAt-same w ws 0 0 (λ k h. reply (0 + k) (omega arith))
@@ -102,7 +102,7 @@ module _ (s ws : List ℕ) (t : Tables) (ch : Chunk) (v : Visit) (l : Leaving) (
     passes-same : (to : ℕ) → passes w ch v l to ≡ passes ws ch v l to
     unfolding passes
     passes-same to =
-        ap (λ (y : Option State). onWay to y []) (along-same (narrowing (v .rule .exit) (condition w v .flow .predicate) (v .ins .a) to))
+        ap (λ (y : Option State). onWay to y []) (along-same (narrowedIn w v to))
         ∙ ap (λ (cs : List Cell). onWay to (alongIn ws ch v l (narrowing (v .rule .exit) (getD cs 0 noCell .flow .predicate) (v .ins .a) to)) []) args-same
 
   -- ---- the ways, by the code's answer
@@ -111,7 +111,7 @@ module _ (s ws : List ℕ) (t : Tables) (ch : Chunk) (v : Visit) (l : Leaving) (
     unfolding waysIn
     ways-are = ap (passesAll ws ch v l) (sym (e ∙ ap (λ (z : Cell). waysOf (v .rule .exit) (v .at) (v .ins .a) (z .mask)) ye))
 
-    ways-none : k ≡ Nowhere → waysIn ws ch v l ≡ []
+    ways-none : k ≡ Zero → waysIn ws ch v l ≡ []
     unfolding passesAll
     ways-none f = ways-are ∙ ap (λ (z : Ways). passesAll ws ch v l (targets z)) f
 
@@ -119,7 +119,7 @@ module _ (s ws : List ℕ) (t : Tables) (ch : Chunk) (v : Visit) (l : Leaving) (
     unfolding passesAll passes
     ways-one a f = ways-are ∙ ap (λ (z : Ways). passesAll ws ch v l (targets z)) f
 
-    pub no-ways : k ≡ Nowhere → Passed s ws ws v q (waysIn ws ch v l) (On q)
+    pub no-ways : k ≡ Zero → Passed s ws ws v q (waysIn ws ch v l) (On q)
     no-ways f = rw (ways-none f) (still s ws t ch v l q x)
 
     pub one-way : (a : ℕ) → k ≡ One a → (u : List ℕ) (r : Went) → Passed s ws u v q (passes ws ch v l a) r → Passed s ws u v q (waysIn ws ch v l) r
@@ -174,7 +174,7 @@ module _ (s ws : List ℕ) (t : Tables) (ch : Chunk) (v : Visit) (l : Leaving) (
               start = x .looking .start;
             }
 
-        pub stands-after : Stands s w t ch v l z
+        pub stands-after : PassReady s w t ch v l z
         unfolding Passed
         stands-after =
             record {

@@ -16,52 +16,57 @@ use Rattle.definition.specs.State.{State, join}
 use Rattle.definition.specs.Outputs.{noCell}
 use Rattle.definition.specs.Ways.{waysOf, narrowing, onWay}
 use Rattle.layout.specs.declared.Chunk.{Chunk}
-use Rattle.row_join.specs.places.Arrive.{nowhere}
+use Rattle.row_join.specs.places.Arrive.{noLocal}
 use Rattle.row_join.specs.declared.joining.Leaving.{Leaving}
 use Rattle.row_join.specs.joining.Leave.{leavesAs}
-use Rattle.visit.specs.declared.Visit.{Visit}
+use Rattle.visit.specs.declared.RowVisit.{RowVisit}
 use Rattle.visit.specs.Held.{argsIn}
 use Rattle.run_state.specs.Course.{roomIn, workIn, Low, Queued, RowsOnly}
 use Rattle.propagate.specs.declared.Went.{Went}
 use Rattle.propagate.specs.declared.Went.the-variants.{On, Stop}
+use Rattle.layout.specs.Layout.{localsAt}
 
 -- what leaves keeps to the places of a row
-pub record Leaves (ch : Chunk) (v : Visit) (l : Leaving) : Type 0 where
+pub record LeavesInRow (ch : Chunk) (v : RowVisit) (l : Leaving) : Type 0 where
   pub height : l .height ≤ ch .stack
   pub above : l .resets ≡ false → v .start ≤ l .height
 
 -- the locals of the row
-abbrev pub localsOf : List ℕ → Chunk → Visit → List Cell
-localsOf ws ch v = cellsAt ws (v .row + 96 + 16 * ch .stack) (ch .locals)
+abbrev pub localsOf : List ℕ → Chunk → RowVisit → List Cell
+localsOf ws ch v = cellsAt ws (localsAt (v .row) (ch .stack)) (ch .locals)
 
 -- the state that leaves, with this local narrowed, or none
-unfoldable pub leavesWith : List ℕ → Chunk → Visit → Leaving → ℕ → State
+unfoldable pub leavesWith : List ℕ → Chunk → RowVisit → Leaving → ℕ → State
 leavesWith ws ch v l narrow = leavesAs ws ch (record { from = v .row; to = v .row; start = v .start; narrow = narrow }) l
 
 -- none where the receiver can't be an enum, so the way is cut
-unfoldable pub alongIn : List ℕ → Chunk → Visit → Leaving → Option ℕ → Option State
-alongIn ws ch v l none = some (leavesWith ws ch v l nowhere)
+unfoldable pub alongIn : List ℕ → Chunk → RowVisit → Leaving → Option ℕ → Option State
+alongIn ws ch v l none = some (leavesWith ws ch v l noLocal)
 alongIn ws ch v l (some r) = cond (has (getD (localsOf ws ch v) r noCell .mask) ENUM) (some (leavesWith ws ch v l r)) none
 
 -- the first operand decides
-abbrev pub condition : List ℕ → Visit → Cell
+abbrev pub condition : List ℕ → RowVisit → Cell
 condition ws v = getD (argsIn ws v) 0 noCell
 
--- what passes to `to`
-unfoldable pub passes : List ℕ → Chunk → Visit → Leaving → ℕ → List (ℕ × State)
-passes ws ch v l to = onWay to (alongIn ws ch v l (narrowing (v .rule .exit) (condition ws v .flow .predicate) (v .ins .a) to)) []
+-- the local that is narrowed on the way to `to`, as the row has the condition
+abbrev pub narrowedIn : List ℕ → RowVisit → ℕ → Option ℕ
+narrowedIn ws v to = narrowing (v .rule .exit) (condition ws v .flow .predicate) (v .ins .a) to
 
-unfoldable pub passesAll : List ℕ → Chunk → Visit → Leaving → List ℕ → List (ℕ × State)
+-- what passes to `to`
+unfoldable pub passes : List ℕ → Chunk → RowVisit → Leaving → ℕ → List (ℕ × State)
+passes ws ch v l to = onWay to (alongIn ws ch v l (narrowedIn ws v to)) []
+
+unfoldable pub passesAll : List ℕ → Chunk → RowVisit → Leaving → List ℕ → List (ℕ × State)
 passesAll ws ch v l [] = []
 passesAll ws ch v l (to ∷ tos) =
-    onWay to (alongIn ws ch v l (narrowing (v .rule .exit) (condition ws v .flow .predicate) (v .ins .a) to)) (passesAll ws ch v l tos)
+    onWay to (alongIn ws ch v l (narrowedIn ws v to)) (passesAll ws ch v l tos)
 
 -- along all ways
-unfoldable pub waysIn : List ℕ → Chunk → Visit → Leaving → List (ℕ × State)
+unfoldable pub waysIn : List ℕ → Chunk → RowVisit → Leaving → List (ℕ × State)
 waysIn ws ch v l = passesAll ws ch v l (waysOf (v .rule .exit) (v .at) (v .ins .a) (condition ws v .mask))
 
 -- what has passed is what the machine puts; only rows of the chunk and the queue are written
-unfoldable pub Passed : List ℕ → List ℕ → List ℕ → Visit → Queue → List (ℕ × State) → Went → Type 0
+unfoldable pub Passed : List ℕ → List ℕ → List ℕ → RowVisit → Queue → List (ℕ × State) → Went → Type 0
 Passed s ws u v q os (On r) =
     (puts join (roomIn s ws) (workIn s ws (v .chunk) q) os ≡ ok (workIn s u (v .chunk) r))
     × RowsOnly s (v .chunk) ws u

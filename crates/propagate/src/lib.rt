@@ -1,6 +1,6 @@
 // What leaves a visit, passed along each of its ways into the rows of its targets; a target that changed is queued.
 use layout::Chunk;
-use layout::NONE;
+use layout::NO_LOCAL;
 use layout::Tables;
 use layout::local_at;
 use layout::row_at;
@@ -11,7 +11,7 @@ use row_join::Leaving;
 use row_join::Met;
 use row_join::Way;
 use row_join::leave;
-use visit::Visit;
+use visit::RowVisit;
 use visit::operand;
 use ways::Narrows;
 use ways::Ways;
@@ -22,12 +22,9 @@ ghost use mathlib.Core.Path.{_≡_};
 ghost use mathlib.Core.List.{List, [], _∷_};
 ghost use Prim.Native.Nat.{ℕ, _+_, _<_, _≤_};
 ghost use lib.ListN.{length};
-ghost use Rattle.layout.specs.Indexed.{tablesOf, chunkAt};
 ghost use Rattle.row_join.specs.joining.Leave.{rowWords};
-ghost use Rattle.visit.specs.Held.{Looking};
-ghost use Rattle.run_state.specs.Course.{Low, Queued};
-ghost use Rattle.propagate.specs.Passing.{Leaves, Passed, leavesWith, passes, waysIn};
-ghost use Rattle.propagate.specs.Steps.{mayBe, cutIn, localOn, QueueStands, EnqueuedIn, Open, Stands, Beside};
+ghost use Rattle.propagate.specs.Passing.{Passed, leavesWith, passes, waysIn};
+ghost use Rattle.propagate.specs.Steps.{mayBe, cutIn, localOn, QueueStands, EnqueuedIn, Open, PassReady, Beside};
 
 // The queue after a way, or the number of the refusal.
 pub enum Went {
@@ -35,7 +32,7 @@ pub enum Went {
     Stop(u8),
 }
 
-fn maybe_enum(ws: &[u32], ch: Chunk, v: Visit, local: usize) -> bool
+fn maybe_enum(ws: &[u32], ch: Chunk, v: RowVisit, local: usize) -> bool
     requires { ⌜ v .row + rowWords ch ≤ length (now ws) ⌝ }
     ensures { λ r. ⌜ r ≡ mayBe (now (ws .entry)) ch v local ⌝ }
 {
@@ -47,7 +44,7 @@ fn maybe_enum(ws: &[u32], ch: Chunk, v: Visit, local: usize) -> bool
 }
 
 // A way on which the receiver can't be an enum is cut.
-fn cut(ws: &[u32], ch: Chunk, v: Visit, narrow: Narrows) -> bool
+fn cut(ws: &[u32], ch: Chunk, v: RowVisit, narrow: Narrows) -> bool
     requires { ⌜ v .row + rowWords ch ≤ length (now ws) ⌝ }
     ensures { λ r. ⌜ r ≡ cutIn (now (ws .entry)) ch v narrow ⌝ }
 {
@@ -61,7 +58,7 @@ fn narrowed_local(narrow: Narrows) -> u16
     ensures { λ r. ⌜ r ≡ localOn narrow ⌝ }
 {
     match narrow {
-        Narrows::Nothing => NONE,
+        Narrows::Nothing => NO_LOCAL,
         Narrows::Local(receiver) => receiver,
     }
 }
@@ -78,12 +75,12 @@ fn enqueue(ws: &mut [u32], t: Tables, q: Queue, to: usize) -> Went
     Went::Stop(8)
 }
 
-// One way that is not cut, to an instruction that is there.
+// One way that is not cut, to an instruction inside the chunk.
 fn pass(
     ws: &mut [u32],
     t: Tables,
     ch: Chunk,
-    v: Visit,
+    v: RowVisit,
     l: Leaving,
     q: Queue,
     to: usize,
@@ -91,7 +88,7 @@ fn pass(
 ) -> Went
     requires { ⌜ Open (now ws) t ch v l q to narrow ⌝ }
     ensures { λ r. ⌜
-        ((s : List ℕ) → Stands s (now (ws .entry)) t ch v l q → to < ch .count
+        ((s : List ℕ) → PassReady s (now (ws .entry)) t ch v l q → to < ch .count
         → Passed s (now (ws .entry)) (now (ws .exit)) v q ((to, leavesWith (now (ws .entry)) ch v l narrow) ∷ []) r
         × Beside s v to (now (ws .entry)) (now (ws .exit)))
         ⌝ }
@@ -115,17 +112,12 @@ fn go(
     ws: &mut [u32],
     t: Tables,
     ch: Chunk,
-    v: Visit,
+    v: RowVisit,
     l: Leaving,
     q: Queue,
     to: usize,
 ) -> Went
-    requires { ⌜ Looking (now s) (now ws) v ⌝ }
-    requires { ⌜ t ≡ tablesOf (now s) ⌝ }
-    requires { ⌜ ch ≡ chunkAt (now s) (now ws) (v .chunk) ⌝ }
-    requires { ⌜ Low (now s) (now ws) (v .chunk) ⌝ }
-    requires { ⌜ Queued (now s) (now ws) (v .chunk) q ⌝ }
-    requires { ⌜ Leaves ch v l ⌝ }
+    requires { ⌜ PassReady (now s) (now ws) t ch v l q ⌝ }
     ensures { λ r. ⌜ Passed (now (s .entry)) (now (ws .entry)) (now (ws .exit)) v q (passes (now (ws .entry)) ch v l to) r ⌝ }
     ensures { λ r. ⌜ Beside (now (s .entry)) v to (now (ws .entry)) (now (ws .exit)) ⌝ }
 {
@@ -144,23 +136,18 @@ pub fn go_all(
     ws: &mut [u32],
     t: Tables,
     ch: Chunk,
-    v: Visit,
+    v: RowVisit,
     l: Leaving,
     q: Queue,
 ) -> Went
-    requires { ⌜ Looking (now s) (now ws) v ⌝ }
-    requires { ⌜ t ≡ tablesOf (now s) ⌝ }
-    requires { ⌜ ch ≡ chunkAt (now s) (now ws) (v .chunk) ⌝ }
-    requires { ⌜ Low (now s) (now ws) (v .chunk) ⌝ }
-    requires { ⌜ Queued (now s) (now ws) (v .chunk) q ⌝ }
-    requires { ⌜ Leaves ch v l ⌝ }
+    requires { ⌜ PassReady (now s) (now ws) t ch v l q ⌝ }
     ensures { λ r. ⌜ Passed (now (s .entry)) (now (ws .entry)) (now (ws .exit)) v q (waysIn (now (ws .entry)) ch v l) r ⌝ }
 {
     let condition = operand(ws, v, 0);
     let rule = v.rule;
     let exit = rule.exit;
     match ways_of(exit, v.ins, v.at, condition.mask) {
-        Ways::Nowhere => Went::On(q),
+        Ways::Zero => Went::On(q),
         Ways::One(to) => go(s, ws, t, ch, v, l, q, to),
         Ways::Two(next, target) => match go(s, ws, t, ch, v, l, q, next) {
             Went::Stop(n) => Went::Stop(n),

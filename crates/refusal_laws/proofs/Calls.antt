@@ -6,13 +6,14 @@ use mathlib.Core.Bool.{Bool, true, false, cond}
 use mathlib.Core.List.{List, _++_}
 use lib.Dec.{ltb, leb}
 use lib.ListN.{length, drop, replicate}
+use Rattle.answers.specs.Answers.{nowhere}
 use Rattle.answers.specs.declared.Refusal.{Refusal}
 use Rattle.answers.specs.declared.Answer.the-variants.{Accepted, Refused}
 use Rattle.definition.specs.declared.Form.{Form}
 use Rattle.definition.specs.declared.Form.the-variants.{Fine}
 use Rattle.definition.specs.declared.Form.the-variants.{Refused as Malformed}
 use Rattle.definition.specs.Module.{moduleOf}
-use Rattle.definition.specs.Form.{formOf, nowhere}
+use Rattle.definition.specs.Form.{formOf}
 use Rattle.definition.specs.Report.{reportBytes}
 use Rattle.definition.specs.Call.{Decided, reported, turned, decided, onForm, decide, Outcome, leftWords, turnedBack, delivered, outcomeOf, call}
 use Rattle.refusal_laws.proofs.Only.{either, OfForm, OfDecided}

@@ -6,17 +6,18 @@ use mathlib.Core.Bool.{Bool, true, false, cond, _&&_, _||_}
 use mathlib.Core.List.{List, [], _∷_}
 use lib.Dec.{eqb, ltb}
 use lib.ListN.{length}
+use Rattle.answers.specs.Answers.{inField}
 use Rattle.answers.specs.declared.Refusal.{Refusal}
 use Rattle.description.specs.Fields.{tagAt, nextAt, fieldsFrom}
 use Rattle.description.specs.declared.Header.{Header}
 use Rattle.description.specs.declared.ChunkHead.{ChunkHead}
 use Rattle.description.specs.declared.Instr.{Instr}
 use Rattle.definition.specs.declared.Scan.{Scan}
-use Rattle.definition.specs.declared.Step.{Step}
-use Rattle.definition.specs.declared.Step.the-variants.{Go, Stop}
+use Rattle.definition.specs.declared.ScanStep.{ScanStep}
+use Rattle.definition.specs.declared.ScanStep.the-variants.{Go, Stop}
 use Rattle.definition.specs.declared.Form.{Form}
 use Rattle.definition.specs.declared.Form.the-variants.{Fine, Refused}
-use Rattle.definition.specs.Form.{lowest, headerFault, chunkFault, instrFault, siteFault, tableFault, orStop, inField, headerStep, chunkStep, instrStep, siteStep, tableStep, fieldStep, lateFault, lateLook, afterLook, finished, onStep, scanFrom, unscanned, formOf}
+use Rattle.definition.specs.Form.{lowest, headerFault, chunkFault, instrFault, siteFault, tableFault, orStop, headerStep, chunkStep, instrStep, siteStep, tableStep, fieldStep, lateFault, lateLook, afterLook, finished, onStep, scanFrom, unscanned, formOf}
 use Rattle.refusal_laws.proofs.Only.{either, OfFault, OfStep, OfForm, there}
 
 abbrev pub Early : ℕ → Type 0
@@ -38,7 +39,7 @@ lowest-fault a b c d =
     (either (OfFault Early) c (omega arith, omega arith) (either (OfFault Early) d (omega arith, omega arith) tt)))
 
 -- ---- the steps of the walk
-unfoldable stopping : ℕ → Refusal → Scan → Step
+unfoldable stopping : ℕ → Refusal → Scan → ScanStep
 stopping n r t = orStop n r t
 
 is-stopping : (n : ℕ) (r : Refusal) (t : Scan) → orStop n r t ≡ stopping n r t
@@ -132,7 +133,7 @@ after-look r w l = go (eqb (r .number) 0) refl
     go false h = there Early (r .number) l h
 
 -- ---- the whole
-on-step : (x : Step) (k : Scan → Form) → OfStep Early x → ((u : Scan) → OfForm Early (k u)) → OfForm Early (onStep x k)
+on-step : (x : ScanStep) (k : Scan → Form) → OfStep Early x → ((u : Scan) → OfForm Early (k u)) → OfForm Early (onStep x k)
 unfolding onStep
 on-step (Go u) k h more = more u
 on-step (Stop r) k h more = h

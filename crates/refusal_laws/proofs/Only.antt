@@ -5,8 +5,8 @@ use mathlib.Core.Bool.{Bool, true, false, cond}
 use mathlib.Core.Option.{Option, none, some}
 use lib.Dec.{eqb}
 use borrow.Author.Tests.{eqb-false}
-use Rattle.definition.specs.declared.Step.{Step}
-use Rattle.definition.specs.declared.Step.the-variants.{Go, Stop}
+use Rattle.definition.specs.declared.ScanStep.{ScanStep}
+use Rattle.definition.specs.declared.ScanStep.the-variants.{Go, Stop}
 use Rattle.definition.specs.declared.Form.{Form}
 use Rattle.definition.specs.declared.Form.the-variants.{Fine, Refused}
 use Rattle.definition.specs.Res.{Res, ok, bad, bind}
@@ -46,7 +46,7 @@ abbrev pub OfDecided : (ℕ → Type 0) → Decided → Type 0
 OfDecided P (reported r steps) = Unit {0}
 OfDecided P (turned r) = P (r .number)
 
-abbrev pub OfStep : (ℕ → Type 0) → Step → Type 0
+abbrev pub OfStep : (ℕ → Type 0) → ScanStep → Type 0
 OfStep P (Go t) = Unit {0}
 OfStep P (Stop r) = P (r .number)
 

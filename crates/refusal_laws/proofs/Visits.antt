@@ -22,7 +22,7 @@ use Rattle.definition.specs.Data.{crossed, dataFault}
 use Rattle.definition.specs.Outputs.{Visit, instr}
 use Rattle.definition.specs.Wants.{checks, allProven, unpacked, unfit}
 use Rattle.definition.specs.Ways.{after}
-use Rattle.definition.specs.Leaves.{Known, lineAt, noLine, hopeless, nothingBelow, always, heightFault, visited, leaves}
+use Rattle.definition.specs.Leaves.{Known, lineAt, hopeless, nothingBelow, always, heightFault, visited, leaves}
 use Rattle.definition.specs.Start.{underEight, inspectionFault, stateFault, inspected, afterChunk}
 use Rattle.refusal_laws.proofs.Only.{either, OfFault, OfRes, OfPlace, unless-of, there}
 
@@ -36,10 +36,10 @@ module _ (P : ℕ → Type 0) (p13 : P 13) (p14 : P 14) (p15 : P 15) (p16 : P 16
       either (OfFault P) (ltb (m .slots) (i .a + i .b)) p13
       (either (OfFault P) (crossed m i ManySlots) p14 (either (OfFault P) (eqb (i .taken) 2) tt p13))
 
-  always-of : (v : Visit) (height : ℕ) → OfFault P (always v height)
+  always-of : (v : Visit) → OfFault P (always v)
   unfolding always
-  always-of v height =
-      either (OfFault P) (ltb height (instr v .taken) || (hopeless v (v .rule .asks) || nothingBelow v (v .rule .acts))) p13
+  always-of v =
+      either (OfFault P) (ltb (v .height) (instr v .taken) || (hopeless (v .rule .asks) (instr v .a) || nothingBelow v)) p13
       (data-of (v .code) (instr v) (v .rule .slots))
 
   unfit-of : (v : Visit) → OfFault P (unfit v)
@@ -49,15 +49,15 @@ module _ (P : ℕ → Type 0) (p13 : P 13) (p14 : P 14) (p15 : P 15) (p16 : P 16
   height-of : (v : Visit) → OfFault P (heightFault v)
   height-of v = either (OfFault P) (ltb (v .chunk .stack) (length (after v .stack))) p18 tt
 
-  visited-of : (b : Bool) (v : Visit) (height i : ℕ) → OfRes P (visited b v height i)
+  visited-of : (b : Bool) (v : Visit) → OfRes P (visited b v)
   unfolding visited
-  visited-of b v height i =
-      unless-of P (always v height) _ (always-of v height)
+  visited-of b v =
+      unless-of P (always v) _ (always-of v)
       (unless-of P (cond b (unfit v) 0) _ (either (OfFault P) b (unfit-of v) tt) (unless-of P (heightFault v) _ (height-of v) tt))
 
   pub leaves-of : (k : Known) (b : Bool) (c : Chunk) (f : Facts) (i : ℕ) (s : State) → OfRes P (leaves k b c f i s)
   unfolding leaves
-  leaves-of k b c f i s = visited-of b _ _ i
+  leaves-of k b c f i s = visited-of b _
 
   -- ---- joins
   join-if : (b : Bool) (x y : State) → OfRes P (joinIf b x y)
@@ -87,16 +87,16 @@ module _ (P : ℕ → Type 0) (p13 : P 13) (p14 : P 14) (p15 : P 15) (p16 : P 16
   state-of x none = tt
   state-of x (some s) = inspection-of _ _
 
-  inspected-of : (ls : List Line) (i : ℕ) (ss : List (Option State)) → OfPlace P (inspected ls i ss)
+  inspected-of : (c : Chunk) (i : ℕ) (ss : List (Option State)) → OfPlace P (inspected c i ss)
   unfolding inspected
-  inspected-of ls i [] = tt
-  inspected-of ls i (s ∷ ss) = go (eqb (stateFault (lineAt ls i noLine) s) 0) refl (inspected-of ls (suc i) ss)
+  inspected-of c i [] = tt
+  inspected-of c i (s ∷ ss) = go (eqb (stateFault (lineAt c i) s) 0) refl (inspected-of c (suc i) ss)
     where
-      go : (b : Bool) → eqb (stateFault (lineAt ls i noLine) s) 0 ≡ b → OfPlace P (inspected ls (suc i) ss)
-          → OfPlace P (cond b (inspected ls (suc i) ss) (some (stateFault (lineAt ls i noLine) s, i)))
+      go : (b : Bool) → eqb (stateFault (lineAt c i) s) 0 ≡ b → OfPlace P (inspected c (suc i) ss)
+          → OfPlace P (cond b (inspected c (suc i) ss) (some (stateFault (lineAt c i) s, i)))
       go true e h = h
-      go false e h = there P _ (state-of (lineAt ls i noLine) s) e
+      go false e h = there P _ (state-of (lineAt c i) s) e
 
   pub after-of : (c : Chunk) (ss : List (Option State)) → OfPlace P (afterChunk c ss)
   unfolding afterChunk
-  after-of c ss = inspected-of (c .code) 0 ss
+  after-of c ss = inspected-of c 0 ss

@@ -1,1 +1,1 @@
-// Theorems about the numbers of refusals: see specs/.
+// No code. Which numbers a refusal has, and what a refused call leaves: see proofs/.

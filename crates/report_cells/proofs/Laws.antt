@@ -5,11 +5,11 @@ use Prim.Native.Nat.{ℕ}
 use native.Mathlib.Omega.{arith}
 use lib.ListN.{length, getD}
 use Rattle.extents.specs.declared.Extent.{Extent}
-use Rattle.le.specs.Wrote.{Wrote}
+use Rattle.le.specs.Wrote.{WroteN}
 use Rattle.definition.specs.Report.{bodyBytes, bodiesBytes}
 
 -- the same write, its bytes said otherwise
-pub said : {l l′ : List ℕ} {at r n : ℕ} {a b : List ℕ} → Wrote l at n a l′ r → a ≡ b → Wrote l at n b l′ r
+pub said : {l l′ : List ℕ} {at r n : ℕ} {a b : List ℕ} → WroteN l at n a l′ r → a ≡ b → WroteN l at n b l′ r
 said w e = record { bytes = rw (← e) (w .bytes); size = rw (← e) (w .size); next = w .next }
 
 -- the four extents of an array

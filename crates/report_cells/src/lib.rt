@@ -17,14 +17,14 @@ ghost use mathlib.Core.List.{_∷_};
 ghost use Prim.Native.Nat.{_+_, _<_, _≤_};
 ghost use lib.ListN.{length};
 ghost use Rattle.le.specs.Le.{le16};
-ghost use Rattle.le.specs.Wrote.{Wrote};
+ghost use Rattle.le.specs.Wrote.{WroteN};
 ghost use Rattle.flows.specs.Flow.{noFlow};
 ghost use Rattle.words.specs.Layout.{cellAt};
 ghost use Rattle.definition.specs.Report.{sizedBytes, widthBytes, rangeBytes, bodyBytes, ownedByte, originNumber, receiverNumber, whenByte, bodiesBytes, sourceBytes, cellBytes};
 
 fn put_width(buf: &mut [u8], at: usize, w: Width) -> usize
     requires { ⌜ at + 5 ≤ length (now buf) ⌝ }
-    ensures { λ r. ⌜ Wrote (now (buf .entry)) at 5 (widthBytes w) (now (buf .exit)) r ⌝ }
+    ensures { λ r. ⌜ WroteN (now (buf .entry)) at 5 (widthBytes w) (now (buf .exit)) r ⌝ }
 {
     match w {
         Width::Unknown => put_sized(buf, at, 0, 0),
@@ -35,7 +35,7 @@ fn put_width(buf: &mut [u8], at: usize, w: Width) -> usize
 
 fn put_sized(buf: &mut [u8], at: usize, tag: u8, size: u32) -> usize
     requires { ⌜ at + 5 ≤ length (now buf) ⌝ }
-    ensures { λ r. ⌜ Wrote (now (buf .entry)) at 5 (sizedBytes tag size) (now (buf .exit)) r ⌝ }
+    ensures { λ r. ⌜ WroteN (now (buf .entry)) at 5 (sizedBytes tag size) (now (buf .exit)) r ⌝ }
 {
     let at = put8(buf, at, tag);
     put32(buf, at, size)
@@ -43,7 +43,7 @@ fn put_sized(buf: &mut [u8], at: usize, tag: u8, size: u32) -> usize
 
 fn put_range(buf: &mut [u8], at: usize, tag: u8, min: u32, max: u32) -> usize
     requires { ⌜ at + 9 ≤ length (now buf) ⌝ }
-    ensures { λ r. ⌜ Wrote (now (buf .entry)) at 9 (rangeBytes tag min max) (now (buf .exit)) r ⌝ }
+    ensures { λ r. ⌜ WroteN (now (buf .entry)) at 9 (rangeBytes tag min max) (now (buf .exit)) r ⌝ }
 {
     let at = put8(buf, at, tag);
     let at = put32(buf, at, min);
@@ -52,7 +52,7 @@ fn put_range(buf: &mut [u8], at: usize, tag: u8, min: u32, max: u32) -> usize
 
 fn put_extent(buf: &mut [u8], at: usize, e: Extent) -> usize
     requires { ⌜ at + 9 ≤ length (now buf) ⌝ }
-    ensures { λ r. ⌜ Wrote (now (buf .entry)) at 9 (bodyBytes (e .body)) (now (buf .exit)) r ⌝ }
+    ensures { λ r. ⌜ WroteN (now (buf .entry)) at 9 (bodyBytes (e .body)) (now (buf .exit)) r ⌝ }
 {
     let b = e.body;
     match b {
@@ -100,7 +100,7 @@ fn when_byte(p: Predicate) -> u8
 
 fn put_bodies(buf: &mut [u8], at: usize, bodies: [Extent; 4]) -> usize
     requires { ⌜ at + 36 ≤ length (now buf) ⌝ }
-    ensures { λ r. ⌜ Wrote (now (buf .entry)) at 36 (bodiesBytes bodies) (now (buf .exit)) r ⌝ }
+    ensures { λ r. ⌜ WroteN (now (buf .entry)) at 36 (bodiesBytes bodies) (now (buf .exit)) r ⌝ }
 {
     let at = put_extent(buf, at, bodies[0]);
     let at = put_extent(buf, at, bodies[1]);
@@ -110,7 +110,7 @@ fn put_bodies(buf: &mut [u8], at: usize, bodies: [Extent; 4]) -> usize
 
 fn put_source(buf: &mut [u8], at: usize, f: Flow) -> usize
     requires { ⌜ at + 6 ≤ length (now buf) ⌝ }
-    ensures { λ r. ⌜ Wrote (now (buf .entry)) at 6 (sourceBytes f) (now (buf .exit)) r ⌝ }
+    ensures { λ r. ⌜ WroteN (now (buf .entry)) at 6 (sourceBytes f) (now (buf .exit)) r ⌝ }
 {
     let owned = f.owned;
     let origin = f.origin;
@@ -123,7 +123,7 @@ fn put_source(buf: &mut [u8], at: usize, f: Flow) -> usize
 
 pub fn put_cell(buf: &mut [u8], at: usize, c: Cell) -> usize
     requires { ⌜ at + 49 ≤ length (now buf) ⌝ }
-    ensures { λ r. ⌜ Wrote (now (buf .entry)) at 49 (cellBytes c) (now (buf .exit)) r ⌝ }
+    ensures { λ r. ⌜ WroteN (now (buf .entry)) at 49 (cellBytes c) (now (buf .exit)) r ⌝ }
 {
     let m = c.mask;
     let w = c.width;
@@ -138,7 +138,7 @@ pub fn put_cell(buf: &mut [u8], at: usize, c: Cell) -> usize
 // No bodies.
 fn put_no_bodies(buf: &mut [u8], at: usize) -> usize
     requires { ⌜ at + 36 ≤ length (now buf) ⌝ }
-    ensures { λ r. ⌜ Wrote (now (buf .entry)) at 36 (bodiesBytes (noFlow .bodies)) (now (buf .exit)) r ⌝ }
+    ensures { λ r. ⌜ WroteN (now (buf .entry)) at 36 (bodiesBytes (noFlow .bodies)) (now (buf .exit)) r ⌝ }
 {
     let at = put_range(buf, at, 0, 0, 0);
     let at = put_range(buf, at, 0, 0, 0);
@@ -149,7 +149,7 @@ fn put_no_bodies(buf: &mut [u8], at: usize) -> usize
 // Not owned, no origin, no predicate.
 fn put_no_source(buf: &mut [u8], at: usize) -> usize
     requires { ⌜ at + 6 ≤ length (now buf) ⌝ }
-    ensures { λ r. ⌜ Wrote (now (buf .entry)) at 6 (sourceBytes noFlow) (now (buf .exit)) r ⌝ }
+    ensures { λ r. ⌜ WroteN (now (buf .entry)) at 6 (sourceBytes noFlow) (now (buf .exit)) r ⌝ }
 {
     let at = put8(buf, at, 0);
     let at = put16(buf, at, 65535);
@@ -157,11 +157,11 @@ fn put_no_source(buf: &mut [u8], at: usize) -> usize
     put8(buf, at, 0)
 }
 
-// A cell without flow.
-fn put_still(buf: &mut [u8], at: usize, c: Cell) -> usize
+// A cell whose flow says nothing: no extents, not owned, no origin, no predicate.
+fn put_flowless(buf: &mut [u8], at: usize, c: Cell) -> usize
     requires { ⌜ at + 49 ≤ length (now buf) ⌝ }
     requires { ⌜ c .flow ≡ noFlow ⌝ }
-    ensures { λ r. ⌜ Wrote (now (buf .entry)) at 49 (cellBytes c) (now (buf .exit)) r ⌝ }
+    ensures { λ r. ⌜ WroteN (now (buf .entry)) at 49 (cellBytes c) (now (buf .exit)) r ⌝ }
 {
     let m = c.mask;
     let bits = m.bits;
@@ -176,19 +176,19 @@ fn put_still(buf: &mut [u8], at: usize, c: Cell) -> usize
 pub fn put_stored(ws: &[u32], buf: &mut [u8], at: usize, word: usize) -> usize
     requires { ⌜ word + 16 ≤ length (now ws) ⌝ }
     requires { ⌜ at + 49 ≤ length (now buf) ⌝ }
-    ensures { λ r. ⌜ Wrote (now (buf .entry)) at 49 (cellBytes (cellAt (now (ws .entry)) word)) (now (buf .exit)) r ⌝ }
+    ensures { λ r. ⌜ WroteN (now (buf .entry)) at 49 (cellBytes (cellAt (now (ws .entry)) word)) (now (buf .exit)) r ⌝ }
 {
     if has_flow(ws, word) {
         return put_cell(buf, at, load(ws, word));
     }
-    put_still(buf, at, load(ws, word))
+    put_flowless(buf, at, load(ws, word))
 }
 
 // A field's tag and length.
 pub fn put_head(buf: &mut [u8], at: usize, tag: u8, len: usize) -> usize
     requires { ⌜ at + 3 ≤ length (now buf) ⌝ }
     requires { ⌜ len < 65536 ⌝ }
-    ensures { λ r. ⌜ Wrote (now (buf .entry)) at 3 (tag ∷ le16 len) (now (buf .exit)) r ⌝ }
+    ensures { λ r. ⌜ WroteN (now (buf .entry)) at 3 (tag ∷ le16 len) (now (buf .exit)) r ⌝ }
 {
     let next = put8(buf, at, tag);
     put16(buf, next, len as u16)

@@ -21,7 +21,7 @@ use Rattle.definition.specs.Machine.{Final, Ran, accepted, refused}
 use Rattle.definition.specs.Module.{Module, Chunk, Line, Site, moduleOf}
 use Rattle.definition.specs.State.{State, Facts}
 use Rattle.definition.specs.Outputs.{outputs}
-use Rattle.definition.specs.Leaves.{Known, visitOf, lineAt, noLine}
+use Rattle.definition.specs.Leaves.{Known, visitOf}
 use Rattle.definition.specs.Form.{formOf}
 use Rattle.definition.specs.Start.{declaredParams, firstFacts, overfull, siteReply, replyIn, replies, firstReply, replyCell, knownOf}
 use Rattle.definition.specs.Report.{Report, signaturesFrom, slotCells, placed, recordFrom, recordOf, fromState, fromStates, fromChunks, reportOf, reportBytes}
@@ -54,7 +54,7 @@ unfolding recordOf recordFrom
 record-proper k c f i s r p q = record {
   stack = q .stack;
   locals = q .locals;
-  outputs = placed-proper _ (outputs-proper (visitOf k c f (lineAt (c .code) i noLine) s) _ (visit-proper k c f (lineAt (c .code) i noLine) s r p q));
+  outputs = placed-proper _ (outputs-proper (visitOf k c f i s) _ (visit-proper k c f i s r p q));
 }
 
 module _ {A : Type 0} (Q : A → Type 0) where

@@ -13,6 +13,7 @@ use Rattle.flows.specs.declared.Flow.{Flow}
 use Rattle.flows.specs.Flow.{noFlow}
 use Rattle.cells.specs.declared.Cell.{Cell}
 use Rattle.cells.specs.Cell.{joinCell, invalidatedCell, bareCell, unitCell}
+use Rattle.description.specs.declared.Instr.{Instr}
 use Rattle.ops.specs.declared.Makes.{Makes}
 use Rattle.ops.specs.declared.Makes.the-variants.{Anything, Constant, Immediate, Local as NamedLocal, Operand, OperandMask, Reply, Result, Common, Kind, Negation, OneKind, Slots, Composite, Part, NativeValue}
 use Rattle.ops.specs.declared.Others.{Others}
@@ -29,8 +30,8 @@ use Rattle.definition.specs.Module.{Native as NativeReturn}
 use Rattle.definition.specs.State.{State, Facts, Live, Gift, nothing, arguments, returned, written, joinStates, joinIf, join}
 use Rattle.definition.specs.Data.{privateCell, flowIn, readSlots, isBody}
 use Rattle.definition.specs.Outputs.{Visit, Setting, arg, instr, noCell, constantCell, fieldCell, nativeCell, at, replyShape, replyCell, compositeCell, firstOutput, secondOutput, restOutput, madeFrom, outputs, output, setting}
-use Rattle.definition.specs.Ways.{narrowStack, isFrom, narrowed, along, forget, setLocals, outputList, kept, resetFirst, afterBy, after, onWay, leavingBy, leaving}
-use Rattle.definition.specs.Leaves.{Known, visitOf, lineAt, noLine, unless, heightFault, visited, leaves, always, givesBy, gives, joinAt, storedFlow, withFlows, writeFlow, writeMask, writeSlot, writeSlots, absorb, opened, closed, moved}
+use Rattle.definition.specs.Ways.{narrowStack, isFrom, narrowed, along, forget, setLocals, outputList, kept, resetFirst, isReset, reset, after, onWay, leavingBy, leaving}
+use Rattle.definition.specs.Leaves.{Known, visitOf, lineAt, unless, heightFault, visited, leaves, always, givesBy, gives, joinAt, storedFlow, withFlows, writeFlow, writeMask, writeSlot, writeSlots, absorb, opened, closed, moved}
 use Rattle.definition.specs.Wants.{unfit, isEntry}
 use Rattle.definition.specs.Wants.{returned as below}
 use Rattle.definition.specs.Start.{filled, start, afterChunk}
@@ -113,23 +114,23 @@ first-proper v Composite p = pick (eqb (instr v .a) 0) _ _ (cell-construction _ 
 first-proper v Part p = pick (eqb (instr v .a) 0) _ _ (cell-made _ _) (pick (eqb (instr v .a) 1) _ _ (cell-fresh _ _ _) (cell-made _ _))
 first-proper v NativeValue p = cell-native (at (v .code .natives) (instr v .a)) _
 
-second-proper : (v : Visit) (k : Others) (c : Cell) → Proper c → Proper (secondOutput v k c)
+second-proper : (k : Others) (i : Instr) (c : Cell) (float : ℕ) → Proper c → Proper (secondOutput k i c float)
 unfolding secondOutput
-second-proper v Unknowns c p = cell-made _ _
-second-proper v Words c p = cell-made _ _
-second-proper v Checked c p = cell-made _ _
-second-proper v Copies c p = p
-second-proper v (Tested k) c p = cell-tested k c _ p
-second-proper v Status c p = cell-made _ _
+second-proper Unknowns i c float p = cell-made _ _
+second-proper Words i c float p = cell-made _ _
+second-proper Checked i c float p = cell-made _ _
+second-proper Copies i c float p = p
+second-proper (Tested k) i c float p = cell-tested k c _ p
+second-proper Status i c float p = cell-made _ _
 
-rest-proper : (v : Visit) (k : Others) (c : Cell) → Proper c → Proper (restOutput v k c)
+rest-proper : (k : Others) (c : Cell) (float : ℕ) → Proper c → Proper (restOutput k c float)
 unfolding restOutput
-rest-proper v Unknowns c p = cell-made _ _
-rest-proper v Words c p = cell-made _ _
-rest-proper v Checked c p = cell-made _ _
-rest-proper v Copies c p = p
-rest-proper v (Tested k) c p = cell-made _ _
-rest-proper v Status c p = cell-made _ _
+rest-proper Unknowns c float p = cell-made _ _
+rest-proper Words c float p = cell-made _ _
+rest-proper Checked c float p = cell-made _ _
+rest-proper Copies c float p = p
+rest-proper (Tested k) c float p = cell-made _ _
+rest-proper Status c float p = cell-made _ _
 
 record ProperMade (m : Made) : Type 0 where
   first : Proper (m .first)
@@ -140,7 +141,7 @@ made-proper : (v : Visit) → ProperVisit v → ProperMade (outputs v)
 unfolding outputs madeFrom
 made-proper v p =
     let f = first-proper v (v .rule .makes) p in
-    record { first = f; second = second-proper v (v .rule .others) _ f; rest = rest-proper v (v .rule .others) _ f }
+    record { first = f; second = second-proper (v .rule .others) (instr v) _ _ f; rest = rest-proper (v .rule .others) _ _ f }
 
 output-proper : (m : Made) (k : ℕ) → ProperMade m → Proper (output m k)
 unfolding output
@@ -197,15 +198,13 @@ unfolding resetFirst
 reset-proper b c q nil = nil
 reset-proper b c q (cons p a) = cons (pick b c unitCell q cell-unit) (all-map Proper (λ x. unitCell) (λ x y. cell-unit) a)
 
-by-proper : (v : Visit) (k : Acts) → ProperVisit v → ProperState (afterBy v k)
-unfolding afterBy
-by-proper v Still p = kept-proper v (setting v Still) p (setting-proper v Still p)
-by-proper v SetsLocal p = kept-proper v (setting v SetsLocal) p (setting-proper v SetsLocal p)
-by-proper v Yields p = kept-proper v (setting v Yields) p (setting-proper v Yields p)
-by-proper v Calls p = kept-proper v (setting v Calls) p (setting-proper v Calls p)
-by-proper v Returns p = kept-proper v (setting v Returns) p (setting-proper v Returns p)
-by-proper v Resets p = record { stack = outputs-proper v (instr v .given) p; locals = reset-proper (v .streams) (v .reply) (p .reply) (p .locals) }
-by-proper v Stores p = kept-proper v (setting v Stores) p (setting-proper v Stores p)
+after-proper : (v : Visit) → ProperVisit v → ProperState (after v)
+unfolding after reset
+after-proper v p = go (isReset (v .rule .acts))
+  where
+    go : (b : Bool) → ProperState (cond b (reset v (outputs v)) (kept v (outputs v) (setting v (v .rule .acts))))
+    go true = record { stack = outputs-proper v (instr v .given) p; locals = reset-proper (v .streams) (v .reply) (p .reply) (p .locals) }
+    go false = kept-proper v (setting v (v .rule .acts)) p (setting-proper v (v .rule .acts) p)
 
 narrow-proper : (r : ℕ) (c : Cell) → Proper c → Proper (narrowStack r c)
 unfolding narrowStack
@@ -258,22 +257,22 @@ unless-use : {A : Type 0} (n : ℕ) (r : Res A) {a : A} → unless n r ≡ ok a 
 unless-use zero r e = e
 unless-use (suc n) r e = absurd (bad≢ok e)
 
-visited-proper : (b : Bool) (v : Visit) (h i : ℕ) (e : Effect State Gift) → visited b v h i ≡ ok e → ProperVisit v → All (λ w. ProperState (w .1)) (e .ways) × ProperGift (e .gives)
-unfolding visited leaving after gives
-visited-proper b v h i e q p =
-    let q₁ = unless-use (always v h) _ q in
+visited-proper : (b : Bool) (v : Visit) (e : Effect State Gift) → visited b v ≡ ok e → ProperVisit v → All (λ w. ProperState (w .1)) (e .ways) × ProperGift (e .gives)
+unfolding visited leaving gives
+visited-proper b v e q p =
+    let q₁ = unless-use (always v) _ q in
     let q₂ = unless-use (cond b (unfit v) 0) _ q₁ in
     let q₃ = unless-use (heightFault v) _ q₂ in
-    rw (← ok-inj q₃) (ways-proper v _ _ (by-proper v (v .rule .acts) p), gift-proper v (v .rule .acts) p)
+    rw (← ok-inj q₃) (ways-proper v _ _ (after-proper v p), gift-proper v (v .rule .acts) p)
 
-pub visit-proper : (k : Known) (c : Chunk) (f : Facts) (x : Line) (s : State) → Proper (k .reply) → ProperFacts f → ProperState s → ProperVisit (visitOf k c f x s)
+pub visit-proper : (k : Known) (c : Chunk) (f : Facts) (i : ℕ) (s : State) → Proper (k .reply) → ProperFacts f → ProperState s → ProperVisit (visitOf k c f i s)
 unfolding visitOf
-visit-proper k c f x s r p q =
+visit-proper k c f i s r p q =
     record {
       reply = r;
       facts = p;
-      args = all-drop Proper (length (s .stack) - x .instr .taken) (q .stack);
-      below = all-take Proper (length (s .stack) - x .instr .taken) (q .stack);
+      args = all-drop Proper (length (s .stack) - lineAt c i .instr .taken) (q .stack);
+      below = all-take Proper (length (s .stack) - lineAt c i .instr .taken) (q .stack);
       locals = q .locals;
     }
 
@@ -331,7 +330,7 @@ keeps k cap r = record {
   viewed = λ f p. p;
   closes = λ f p. record { inputs = p .inputs; results = p .results; flows = p .flows };
   absorbs = λ f g p q. absorb-proper (k .code) f g p q;
-  left = λ b c f i s e q u p w. visited-proper b (visitOf k c f (lineAt (c .code) i noLine) s) (length (s .stack)) i e q (visit-proper k c f (lineAt (c .code) i noLine) s r p w);
+  left = λ b c f i s e q u p w. visited-proper b (visitOf k c f i s) e q (visit-proper k c f i s r p w);
 }
 
 every : {A : Type 0} (xs : List A) → All (λ x. Unit {0}) xs

@@ -1,5 +1,5 @@
 -- What the definition adds beside the record of an instruction: the inspection that says false, the test that is known.
-use Prim.Native.Nat.{ℕ, zero, suc, _+_, _-_}
+use Prim.Native.Nat.{ℕ, zero, suc, _-_}
 use native.Mathlib.Omega.{arith}
 use mathlib.Core.Path.{_≡_, refl, sym, ap, _∙_}
 use mathlib.Core.Bool.{Bool, true, false, not, cond, _&&_, _||_}
@@ -17,8 +17,8 @@ use Rattle.definition.specs.Module.{Chunk, moduleOf}
 use Rattle.definition.specs.Leaves.{lineAt}
 use Rattle.definition.specs.Start.{last}
 use Rattle.definition.specs.Report.{Branch, saysFalse, isTest, inspectionOf, branchOf, fromState, inspectionBytes, branchBytes, each}
-use Rattle.form_laws.specs.Good.{chunkNo, lineNo}
-use Rattle.layout.specs.Layout.{rowAt}
+use Rattle.form_laws.specs.Good.{chunkNo}
+use Rattle.layout.specs.Layout.{rowAt, stackAt}
 use Rattle.row_join.specs.joining.Leave.{stateBy, stateIn}
 use Rattle.report_size.specs.recorded.Told.{topIn, falseIn, decidedIn, wayIn}
 use Rattle.report_size.specs.Adds.{added, inspectionAt, branchAt}
@@ -33,27 +33,27 @@ module _ (s ws : List ℕ) (n i : ℕ) (number : chunkNo (moduleOf s) n .number 
   row = rowAt (moduleOf s) n i
 
   abbrev op : ℕ
-  op = lineNo (chunkNo (moduleOf s) n) i .instr .op
+  op = lineAt (chunkNo (moduleOf s) n) i .instr .op
 
   abbrev c : Chunk
   c = chunkNo (moduleOf s) n
 
   -- one less than a height's word
-  less : (h : ℕ) → last (cellsAt ws (row + 96) h) ≡ last (cellsAt ws (row + 96) (suc h - 1))
-  less h = let z : h ≡ suc h - 1 = omega arith in ap (λ (k : ℕ). last (cellsAt ws (row + 96) k)) z
+  less : (h : ℕ) → last (cellsAt ws (stackAt row) h) ≡ last (cellsAt ws (stackAt row) (suc h - 1))
+  less h = let z : h ≡ suc h - 1 = omega arith in ap (λ (k : ℕ). last (cellsAt ws (stackAt row) k)) z
 
   pub inspection-told : inspectionAt s ws n i ≡ cond (falseIn ws row op) (inspectionBytes (record { chunk = n; instruction = i })) []
-  unfolding inspectionAt added stateIn stateBy falseIn topIn fromState inspectionOf lineAt lineNo each
+  unfolding inspectionAt added stateIn stateBy falseIn topIn fromState inspectionOf lineAt each
   inspection-told = go (getD ws row 0)
     where
       go : (w : ℕ) → each inspectionBytes (fromState (inspectionOf c) i (stateBy ws row (c .stack) (c .locals) w))
-          ≡ cond (not (eqb w 0) && saysFalse (ruleOf op .others) (last (cellsAt ws (row + 96) (w - 1)))) (inspectionBytes (record { chunk = n; instruction = i })) []
+          ≡ cond (not (eqb w 0) && saysFalse (ruleOf op .others) (last (cellsAt ws (stackAt row) (w - 1)))) (inspectionBytes (record { chunk = n; instruction = i })) []
       go zero = refl
       go (suc h) =
-          each-one inspectionBytes (saysFalse (ruleOf op .others) (last (cellsAt ws (row + 96) h))) (record { chunk = c .number; instruction = i })
-          ∙ ap (λ (k : ℕ). cond (saysFalse (ruleOf op .others) (last (cellsAt ws (row + 96) h))) (inspectionBytes (record { chunk = k; instruction = i })) []) number
+          each-one inspectionBytes (saysFalse (ruleOf op .others) (last (cellsAt ws (stackAt row) h))) (record { chunk = c .number; instruction = i })
+          ∙ ap (λ (k : ℕ). cond (saysFalse (ruleOf op .others) (last (cellsAt ws (stackAt row) h))) (inspectionBytes (record { chunk = k; instruction = i })) []) number
           ∙ ap (λ (x : Cell). cond (saysFalse (ruleOf op .others) x) (inspectionBytes (record { chunk = n; instruction = i })) []) (less h)
-          ∙ ap (λ (b : Bool). cond (not b && saysFalse (ruleOf op .others) (last (cellsAt ws (row + 96) (suc h - 1)))) (inspectionBytes (record { chunk = n; instruction = i })) [])
+          ∙ ap (λ (b : Bool). cond (not b && saysFalse (ruleOf op .others) (last (cellsAt ws (stackAt row) (suc h - 1)))) (inspectionBytes (record { chunk = n; instruction = i })) [])
           (sym (ne-eqb (suc h) 0 (λ e. omega arith)))
 
   abbrev branchAs : ℕ → Branch
@@ -73,7 +73,7 @@ module _ (s ws : List ℕ) (n i : ℕ) (number : chunkNo (moduleOf s) n .number 
       go false false p q = refl
 
   pub branch-told : branchAt s ws n i ≡ cond (decidedIn ws row op) (branchBytes (branchAs (wayIn ws row))) []
-  unfolding branchAt added stateIn stateBy decidedIn wayIn topIn fromState branchOf lineAt lineNo each
+  unfolding branchAt added stateIn stateBy decidedIn wayIn topIn fromState branchOf lineAt each
   branch-told = go (getD ws row 0)
     where
       decided : (b : Bool) (m : Mask) → each branchBytes (cond b (cond (same m FALSE) (branchAs 0 ∷ []) (cond (same m TRUE) (branchAs 1 ∷ []) [])) [])
@@ -83,7 +83,7 @@ module _ (s ws : List ℕ) (n i : ℕ) (number : chunkNo (moduleOf s) n .number 
 
       go : (w : ℕ) → each branchBytes (fromState (branchOf c) i (stateBy ws row (c .stack) (c .locals) w))
           ≡ cond
-          (not (eqb w 0) && (isTest (ruleOf op .exit) && (same (last (cellsAt ws (row + 96) (w - 1)) .mask) FALSE || same (last (cellsAt ws (row + 96) (w - 1)) .mask) TRUE)))
-          (branchBytes (branchAs (cond (same (last (cellsAt ws (row + 96) (w - 1)) .mask) TRUE) 1 0))) []
+          (not (eqb w 0) && (isTest (ruleOf op .exit) && (same (last (cellsAt ws (stackAt row) (w - 1)) .mask) FALSE || same (last (cellsAt ws (stackAt row) (w - 1)) .mask) TRUE)))
+          (branchBytes (branchAs (cond (same (last (cellsAt ws (stackAt row) (w - 1)) .mask) TRUE) 1 0))) []
       go zero = refl
-      go (suc h) = rw (ne-eqb (suc h) 0 (λ e. omega arith), number, ← less h) (decided (isTest (ruleOf op .exit)) (last (cellsAt ws (row + 96) h) .mask))
+      go (suc h) = rw (ne-eqb (suc h) 0 (λ e. omega arith), number, ← less h) (decided (isTest (ruleOf op .exit)) (last (cellsAt ws (stackAt row) h) .mask))

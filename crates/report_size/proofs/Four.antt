@@ -17,6 +17,7 @@ use Rattle.words.specs.Layout.{cellAt}
 use Rattle.words.proofs.Laws.{cellAt-fit}
 use Rattle.words.specs.Rows.{cellsAt}
 use Rattle.definition.specs.Module.{Module, Site, Native, row, moduleOf}
+use Rattle.description.specs.declared.Instr.{Instr}
 use Rattle.definition.specs.State.{Facts}
 use Rattle.definition.specs.Data.{isBody, flowIn, privateCell, readSlots}
 use Rattle.definition.specs.Outputs.{Visit, instr, at, withPredicate, withOrigin, constantCell, fieldCell, nativeCell, replyShape, replyCell, compositeCell, firstOutput, secondOutput, restOutput, tested, madeFrom, outputs, output}
@@ -25,7 +26,7 @@ use Rattle.definition.specs.Report.{cellBytes}
 use Rattle.machine_laws.proofs.All.{All, nil, cons, all-get}
 use Rattle.report_laws.proofs.Cells.{cell-long}
 use Rattle.report_laws.proofs.Kept.{flow-none, cell-made, cell-fresh, cell-none, cell-construction, joined-long}
-use Rattle.visit.specs.declared.Visit.{Visit as Look}
+use Rattle.visit.specs.declared.RowVisit.{RowVisit}
 use Rattle.visit.specs.Held.{Looking, argsIn, factsIn, stateOf, visitIn}
 use Rattle.visit.proofs.Visits.{args-are}
 
@@ -103,32 +104,32 @@ four-first v Composite p = pick (eqb (instr v .a) 0) _ _ (cell-construction _ _ 
 four-first v Part p = pick (eqb (instr v .a) 0) _ _ (cell-made _ _ .four) (pick (eqb (instr v .a) 1) _ _ (cell-fresh _ _ _ .four) (cell-made _ _ .four))
 four-first v NativeValue p = four-native (at (v .code .natives) (instr v .a)) _
 
-four-second : (v : Visit) (k : Others) (c : Cell) → Four c → Four (secondOutput v k c)
+four-second : (k : Others) (i : Instr) (c : Cell) (float : ℕ) → Four c → Four (secondOutput k i c float)
 unfolding secondOutput tested withPredicate
-four-second v Unknowns c h = cell-made _ _ .four
-four-second v Words c h = cell-made _ _ .four
-four-second v Checked c h = cell-made _ _ .four
-four-second v Copies c h = h
-four-second v (Tested k) c h = cell-made _ _ .four
-four-second v Status c h = cell-made _ _ .four
+four-second Unknowns i c float h = cell-made _ _ .four
+four-second Words i c float h = cell-made _ _ .four
+four-second Checked i c float h = cell-made _ _ .four
+four-second Copies i c float h = h
+four-second (Tested k) i c float h = cell-made _ _ .four
+four-second Status i c float h = cell-made _ _ .four
 
-four-rest : (v : Visit) (k : Others) (c : Cell) → Four c → Four (restOutput v k c)
+four-rest : (k : Others) (c : Cell) (float : ℕ) → Four c → Four (restOutput k c float)
 unfolding restOutput
-four-rest v Unknowns c h = cell-made _ _ .four
-four-rest v Words c h = cell-made _ _ .four
-four-rest v Checked c h = cell-made _ _ .four
-four-rest v Copies c h = h
-four-rest v (Tested k) c h = cell-made _ _ .four
-four-rest v Status c h = cell-made _ _ .four
+four-rest Unknowns c float h = cell-made _ _ .four
+four-rest Words c float h = cell-made _ _ .four
+four-rest Checked c float h = cell-made _ _ .four
+four-rest Copies c float h = h
+four-rest (Tested k) c float h = cell-made _ _ .four
+four-rest Status c float h = cell-made _ _ .four
 
 four-output : (v : Visit) → FourVisit v → (k : ℕ) → Four (output (outputs v) k)
 unfolding outputs madeFrom output
 four-output v p zero = four-first v (v .rule .makes) p
-four-output v p (suc zero) = four-second v (v .rule .others) _ (four-first v (v .rule .makes) p)
-four-output v p (suc (suc k)) = four-rest v (v .rule .others) _ (four-first v (v .rule .makes) p)
+four-output v p (suc zero) = four-second (v .rule .others) (instr v) _ _ (four-first v (v .rule .makes) p)
+four-output v p (suc (suc k)) = four-rest (v .rule .others) _ _ (four-first v (v .rule .makes) p)
 
 -- the outputs of a visit that the code looks at
-pub looked-four : (s ws : List ℕ) (v : Look) → Looking s ws v → (k : ℕ) → Four (output (outputs (visitIn s ws v)) k)
+pub looked-four : (s ws : List ℕ) (v : RowVisit) → Looking s ws v → (k : ℕ) → Four (output (outputs (visitIn s ws v)) k)
 unfolding visitIn visitOf stateOf argsIn factsIn
 looked-four s ws v x k =
     four-output (visitIn s ws v)

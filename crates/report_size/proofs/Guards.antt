@@ -12,7 +12,7 @@ use Rattle.definition.specs.declared.Check.{Check}
 use Rattle.definition.specs.declared.Check.the-variants.{Fine, Guard, Unproven}
 use Rattle.definition.specs.Wants.{Asked, Guarded, guardOf, guardsIn}
 use Rattle.form_laws.proofs.Each.{row-length}
-use Rattle.visit.specs.declared.Visit.{Visit as Look}
+use Rattle.visit.specs.declared.RowVisit.{RowVisit}
 use Rattle.checks.specs.asked.Proving.{placesBy, foundIn, askedFrom, askedIn}
 use Rattle.checks.proofs.asked.Checked.{asked-turn, asked-end}
 use Rattle.report_size.specs.recorded.Guard.{isGuard}
@@ -38,7 +38,7 @@ unfolding guardsIn
 guards-most [] = omega arith
 guards-most (x ∷ xs) = omega (arith, one-most (x .place) (x .found) (guardsIn xs), guards-most xs)
 
-places-most : (v : Look) (a : Ask) → v .height ≤ 64 → placesBy v a .end - placesBy v a .from ≤ 64
+places-most : (v : RowVisit) (a : Ask) → v .height ≤ 64 → placesBy v a .end - placesBy v a .from ≤ 64
 unfolding placesBy
 places-most v Below h = omega arith
 places-most v Nothing h = omega arith
@@ -49,13 +49,13 @@ places-most v Writes h = omega arith
 places-most v WritesIndexed h = omega arith
 places-most v Never h = omega arith
 
-pub few-guards : (s ws : List ℕ) (v : Look) (w : Want) → v .height ≤ 64 → length (guardsIn (askedIn s ws v w)) ≤ 64
+pub few-guards : (s ws : List ℕ) (v : RowVisit) (w : Want) → v .height ≤ 64 → length (guardsIn (askedIn s ws v w)) ≤ 64
 unfolding askedIn askedFrom
 few-guards s ws v w h =
     omega (arith, guards-most (askedIn s ws v w), row-length {A = Asked} (λ (k : ℕ). record { place = k; found = foundIn s ws v w k }) (placesBy v (w .ask) .from) (placesBy v (w .ask) .end - placesBy v (w .ask) .from), places-most v (w .ask) h)
 
 -- one place more
-module _ (s ws : List ℕ) (v : Look) (w : Want) (p e : ℕ) where
+module _ (s ws : List ℕ) (v : RowVisit) (w : Want) (p e : ℕ) where
   pub guards-turn : p < e → (b : Bool) → isGuard (foundIn s ws v w p) ≡ b
       → length (guardsIn (askedFrom s ws v w p e)) ≡ cond b 1 0 + length (guardsIn (askedFrom s ws v w (p + 1) e))
   unfolding guardsIn

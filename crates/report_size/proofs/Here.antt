@@ -18,17 +18,17 @@ use Rattle.layout.specs.declared.Chunk.{Chunk as ChunkNumbers}
 use Rattle.layout.specs.Layout.{rowAt}
 use Rattle.layout.specs.Indexed.{Indexed, chunkAt}
 use Rattle.layout.proofs.Read.{Row, row-known, count-is, stack-is, locals-is, entry-is}
-use Rattle.visit.specs.declared.Visit.{Visit as Look}
+use Rattle.visit.specs.declared.RowVisit.{RowVisit}
 use Rattle.visit.specs.Held.{Looking, knownIn, visitIn}
 use Rattle.run_state.specs.Course.{Low, LowBefore}
 use Rattle.checks.specs.asked.Proving.{Asking}
 use Rattle.report_size.specs.Reporting.{Faultless}
 use Rattle.report_size.specs.Adds.{recordable}
-use Rattle.report_size.specs.recorded.Told.{Stands, recorded}
+use Rattle.report_size.specs.recorded.Told.{RowInside, recorded}
 use Rattle.report_size.specs.Here.{Finished, Here}
 
 -- its visit
-abbrev pub Visits : List ℕ → List ℕ → ℕ → ℕ → Look → Type 0
+abbrev pub Visits : List ℕ → List ℕ → ℕ → ℕ → RowVisit → Type 0
 Visits s ws c i v = Looking s ws v × (v .chunk ≡ c) × (v .at ≡ i)
 
 -- ---- the instructions that may be recorded
@@ -70,7 +70,7 @@ module _ (s ws : List ℕ) (t : Tables) (f : Finished s ws t) (c : ℕ) (ch : Ch
   unfolding LowBefore Low
   low-here = omega (arith, f .ended .low c (h .chunk) (h .reachable) i (row-here .there), stack-is s ws c ch (h .numbers))
 
-  pub stands-here : (row : ℕ) → row ≡ rowAt (moduleOf s) c i → Stands ws row
+  pub stands-here : (row : ℕ) → row ≡ rowAt (moduleOf s) c i → RowInside ws row
   stands-here row e =
       rw e
       (record {
@@ -88,14 +88,14 @@ module _ (s ws : List ℕ) (t : Tables) (f : Finished s ws t) (c : ℕ) (ch : Ch
       let w : getD ws row 0 ≡ getD ws (rowAt (moduleOf s) c i) 0 = ap (λ (p : ℕ). getD ws p 0) e in
       omega arith
 
-  module _ (v : Look) (x : Visits s ws c i v) where
+  module _ (v : RowVisit) (x : Visits s ws c i v) where
     pub numbers-here : ch ≡ chunkAt s ws (v .chunk)
     numbers-here = h .numbers ∙ ap (chunkAt s ws) (sym (x .1))
 
     pub row-of : (row : ℕ) → row ≡ rowAt (moduleOf s) c i → row ≡ v .row
     row-of row e = e ∙ ap₂ (rowAt (moduleOf s)) (sym (x .1)) (sym (x .2)) ∙ sym (x .0 .row)
 
-    pub fine-here : always (visitIn s ws v) (v .height) ≡ 0
+    pub fine-here : always (visitIn s ws v) ≡ 0
     unfolding Faultless
     fine-here = f .faultless v (x .0) (ap (λ (n : ℕ). chunkNo (moduleOf s) n .reachable) (x .1) ∙ h .reachable)
 
@@ -104,7 +104,7 @@ module _ (s ws : List ℕ) (t : Tables) (f : Finished s ws t) (c : ℕ) (ch : Ch
     entry-here =
         ap₂ eqb (sym (x .1) ∙ sym (indexed .good .eachChunk (v .chunk) (x .0 .chunk) .number)) (entry-is s t (f .tables))
 
-    pub asking-here : (w : Want) → w ≡ wantOf (visitIn s ws v) (v .rule .asks) → Asking s ws v w
+    pub asking-here : (w : Want) → w ≡ wantOf (visitIn s ws v) → Asking s ws v w
     asking-here w e = record { looking = x .0; fine = fine-here; want = e }
 
     -- what bounds the length of its record

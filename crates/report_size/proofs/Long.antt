@@ -16,12 +16,12 @@ use Rattle.definition.specs.Wants.{guards}
 use Rattle.definition.specs.Ways.{outputList}
 use Rattle.definition.specs.Leaves.{lineAt}
 use Rattle.definition.specs.Report.{Record, placed, recordFrom, recordOf, fromState, each, cellBytes, cellsBytes, outputsBytes, guardsBytes, countsBytes, recordBytes, signatureBytes, slotBytes}
-use Rattle.form_laws.specs.Good.{chunkNo, lineNo}
-use Rattle.layout.specs.Layout.{rowAt, inputAt, resultAt, slotAt}
+use Rattle.form_laws.specs.Good.{chunkNo}
+use Rattle.layout.specs.Layout.{rowAt, inputAt, resultAt, slotAt, localsAt, stackAt}
 use Rattle.report_laws.proofs.Has.{long16}
 use Rattle.report_laws.proofs.Back.{recordIn, guards-long}
 use Rattle.row_join.specs.joining.Leave.{stateBy, stateIn}
-use Rattle.visit.specs.declared.Visit.{Visit as Look}
+use Rattle.visit.specs.declared.RowVisit.{RowVisit}
 use Rattle.visit.specs.Held.{Looking, knownIn, stateOf, visitIn}
 use Rattle.run_state.specs.Course.{knownAs}
 use Rattle.run_state.proofs.Rows.{stateAt}
@@ -82,7 +82,7 @@ private-long s ws n =
     omega (arith, field-long 18 (cellBytes (bareAt ws p)), four-long (bareAt ws p) (four-at ws p))
 
 -- ---- the record of a visit
-module _ (s ws : List ℕ) (v : Look) where
+module _ (s ws : List ℕ) (v : RowVisit) where
   unfoldable pub visitRecord : Record
   visitRecord = recordFrom (chunkNo (moduleOf s) (v .chunk)) (v .at) (stateOf s ws v) (visitIn s ws v)
 
@@ -94,7 +94,7 @@ module _ (s ws : List ℕ) (v : Look) where
         rw (w, x .row)
 
     pub record-is : knownIn s ws ≡ knownAs s → recordAt s ws (v .chunk) (v .at) ≡ recordBytes visitRecord
-    unfolding recordAt added each fromState recordOf visitRecord visitIn lineAt lineNo
+    unfolding recordAt added each fromState recordOf visitRecord visitIn lineAt
     record-is k = rw (state-there, k) (append-nil _)
 
     pub contents-long : length (recordIn visitRecord)
@@ -103,8 +103,8 @@ module _ (s ws : List ℕ) (v : Look) where
     contents-long =
         let u = visitIn s ws v in
         let c = chunkNo (moduleOf s) (v .chunk) in
-        let st = cellsBytes (cellsAt ws (v .row + 96) (v .height)) in
-        let ls = cellsBytes (cellsAt ws (v .row + 96 + 16 * c .stack) (c .locals)) in
+        let st = cellsBytes (cellsAt ws (stackAt (v .row)) (v .height)) in
+        let ls = cellsBytes (cellsAt ws (localsAt (v .row) (c .stack)) (c .locals)) in
         let os = outputsBytes (placed (length (u .below)) (row (output (outputs u)) 0 (instr u .given))) in
         let gs = guardsBytes (guards u) in
         omega (
@@ -112,8 +112,8 @@ module _ (s ws : List ℕ) (v : Look) where
           length-append st (ls ++ (os ++ gs)),
           length-append ls (os ++ gs),
           length-append os gs,
-          cells-long ws (v .row + 96) (v .height),
-          cells-long ws (v .row + 96 + 16 * c .stack) (c .locals),
+          cells-long ws (stackAt (v .row)) (v .height),
+          cells-long ws (localsAt (v .row) (c .stack)) (c .locals),
           outputs-long (output (outputs u)) (looked-four s ws v x) (length (u .below)) 0 (instr u .given),
           guards-long (guards u),
           ap (λ (i : Instr). i .given) (ins-is s ws v x),

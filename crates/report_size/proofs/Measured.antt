@@ -11,7 +11,7 @@ use Rattle.definition.specs.Module.{Chunk, moduleOf}
 use Rattle.definition.specs.State.{State}
 use Rattle.definition.specs.Wants.{guards}
 use Rattle.definition.specs.Report.{Inspection, Branch, each, fromState, field, inspectionBytes, branchBytes, recordBytes, reportBytes}
-use Rattle.form_laws.specs.Good.{chunkNo, lineNo}
+use Rattle.form_laws.specs.Good.{chunkNo}
 use Rattle.layout.specs.declared.Tables.{Tables}
 use Rattle.layout.specs.declared.Chunk.{Chunk as ChunkNumbers}
 use Rattle.layout.specs.Layout.{rowAt}
@@ -19,7 +19,7 @@ use Rattle.layout.specs.Indexed.{Indexed}
 use Rattle.layout.proofs.Read.{locals-is}
 use Rattle.report_laws.proofs.Back.{recordIn}
 use Rattle.row_join.specs.joining.Leave.{stateBy, stateIn}
-use Rattle.visit.specs.declared.Visit.{Visit as Look}
+use Rattle.visit.specs.declared.RowVisit.{RowVisit}
 use Rattle.visit.specs.Held.{Looking, visitIn}
 use Rattle.report_size.specs.Reporting.{reportIn}
 use Rattle.report_size.specs.Span.{span, cut}
@@ -33,6 +33,7 @@ use Rattle.report_size.proofs.Long.{visitRecord, private-long, record-i
 use Rattle.report_size.specs.Here.{Finished, Here}
 use Rattle.report_size.proofs.Here.{Visits, numbers-here, row-of}
 use Rattle.report_size.specs.Measured.{allFor, allIn}
+use Rattle.definition.specs.Leaves.{lineAt}
 
 -- ---- one instruction
 pub added-none : {A : Type 0} (f : A → List ℕ) (g : Chunk → ℕ → State → List A) (s ws : List ℕ) (n i : ℕ)
@@ -55,11 +56,11 @@ unfolding branchBytes field le16
 branch-long true x = refl
 branch-long false x = refl
 
-module _ (s ws : List ℕ) (t : Tables) (f : Finished s ws t) (v : Look) (x : Looking s ws v) where
+module _ (s ws : List ℕ) (t : Tables) (f : Finished s ws t) (v : RowVisit) (x : Looking s ws v) where
   number-is : chunkNo (moduleOf s) (v .chunk) .number ≡ v .chunk
   number-is = f .ended .prepared .indexed .good .eachChunk (v .chunk) (x .chunk) .number
 
-  op-is : v .ins .op ≡ lineNo (chunkNo (moduleOf s) (v .chunk)) (v .at) .instr .op
+  op-is : v .ins .op ≡ lineAt (chunkNo (moduleOf s) (v .chunk)) (v .at) .instr .op
   op-is = ap (λ (i : Instr). i .op) (x .ins)
 
   pub false-is : inspectionAt s ws (v .chunk) (v .at) ≡ cond (falseIn ws (v .row) (v .ins .op)) (inspectionBytes (record { chunk = v .chunk; instruction = v .at })) []
@@ -89,7 +90,7 @@ module _ (s ws : List ℕ) (t : Tables) (f : Finished s ws t) (v : Look) (x : Lo
       )
 
 pub some-added : (s ws : List ℕ) (t : Tables) (f : Finished s ws t) (c : ℕ) (ch : ChunkNumbers) (i : ℕ) → Here s ws c ch i → (row : ℕ) → row ≡ rowAt (moduleOf s) c i
-    → (v : Look) → Visits s ws c i v
+    → (v : RowVisit) → Visits s ws c i v
     → length (allFor s ws c i)
     ≡ 3 + (12 + 49 * (v .height + ch .locals) + 51 * v .ins .given + 4 * length (guards (visitIn s ws v)))
     + cond (falseIn ws row (v .ins .op)) 7 0 + cond (decidedIn ws row (v .ins .op)) 8 0

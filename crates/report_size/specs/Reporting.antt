@@ -7,13 +7,13 @@ use Rattle.definition.specs.Module.{moduleOf}
 use Rattle.definition.specs.Leaves.{always}
 use Rattle.definition.specs.Report.{Report, reportOf}
 use Rattle.form_laws.specs.Good.{chunkNo}
-use Rattle.visit.specs.declared.Visit.{Visit as Look}
+use Rattle.visit.specs.declared.RowVisit.{RowVisit}
 use Rattle.visit.specs.Held.{Looking, visitIn}
 use Rattle.run_state.specs.Course.{finalIn, knownAs}
 
 -- no recorded visit is refused in whatever mode: a run that is accepted has validated them all
 unfoldable pub Faultless : List ℕ → List ℕ → Type 0
-Faultless s ws = (v : Look) → Looking s ws v → chunkNo (moduleOf s) (v .chunk) .reachable ≡ true → always (visitIn s ws v) (v .height) ≡ 0
+Faultless s ws = (v : RowVisit) → Looking s ws v → chunkNo (moduleOf s) (v .chunk) .reachable ≡ true → always (visitIn s ws v) ≡ 0
 
 unfoldable pub reportIn : List ℕ → List ℕ → ℕ → Report
 reportIn s ws reply = reportOf (knownAs s) reply (finalIn s ws)

@@ -16,7 +16,7 @@ pub use recorded::is_recorded;
 pub use recorded::known_branch;
 pub use recorded::record_len;
 pub use recorded::recorded_count;
-use visit::Visit;
+use visit::RowVisit;
 use visit::visit_at;
 ghost use mathlib.Core.Path.{_≡_};
 ghost use Prim.Native.Nat.{ℕ, _+_, _*_, _<_, _≤_};
@@ -34,7 +34,7 @@ ghost use Rattle.report_size.specs.Adds.{signatureAt};
 ghost use Rattle.report_size.specs.Here.{Finished, Here};
 ghost use Rattle.report_size.specs.Measured.{allFor, allIn};
 
-pub fn count_guards(s: &[u8], ws: &[u32], t: Tables, v: Visit, want: Want) -> usize
+pub fn count_guards(s: &[u8], ws: &[u32], t: Tables, v: RowVisit, want: Want) -> usize
     requires { ⌜ Asking (now s) (now ws) v want ⌝ }
     requires { ⌜ t ≡ tablesOf (now s) ⌝ }
     ensures { λ r. ⌜ (r ≡ length (guards (visitIn (now (s .entry)) (now (ws .entry)) v))) × (r ≤ 64) ⌝ }

@@ -4,14 +4,19 @@ use index::row_height;
 use layout::Chunk;
 use layout::place_at;
 use masks::Mask;
-use visit::Visit;
+use ops::BREAK_IF;
+use ops::IF;
+use ops::IS_ENUM;
+use ops::IS_STRUCT;
+use visit::RowVisit;
 use words::mask_at;
 ghost use mathlib.Core.Path.{_≡_};
 ghost use mathlib.Core.Bool.{cond};
 ghost use Prim.Native.Nat.{_+_, _*_, _<_, _≤_};
 ghost use lib.ListN.{length};
+ghost use Rattle.definition.specs.Bounds.{mostStack, mostLocals, mostGiven};
 ghost use Rattle.report_size.specs.recorded.Guard.{isGuard};
-ghost use Rattle.report_size.specs.recorded.Told.{Stands, recorded, topIn, falseIn, decidedIn, wayIn};
+ghost use Rattle.report_size.specs.recorded.Told.{RowInside, recorded, topIn, falseIn, decidedIn, wayIn};
 
 pub fn is_guard(c: Check) -> bool
     ensures { λ r. ⌜ r ≡ isGuard c ⌝ }
@@ -24,8 +29,8 @@ pub fn is_guard(c: Check) -> bool
 }
 
 // The length of the record's contents.
-pub fn record_len(ch: Chunk, v: Visit, guards: usize) -> usize
-    requires { ⌜ (v .height ≤ 64) × (ch .locals ≤ 256) × (v .ins .given ≤ 4) × (guards ≤ 64) ⌝ }
+pub fn record_len(ch: Chunk, v: RowVisit, guards: usize) -> usize
+    requires { ⌜ (v .height ≤ mostStack) × (ch .locals ≤ mostLocals) × (v .ins .given ≤ mostGiven) × (guards ≤ mostStack) ⌝ }
     ensures { λ r. ⌜ r ≡ 12 + 49 * (v .height + ch .locals) + 51 * v .ins .given + 4 * guards ⌝ }
 {
     let ins = v.ins;
@@ -34,7 +39,7 @@ pub fn record_len(ch: Chunk, v: Visit, guards: usize) -> usize
 
 // The top of the stack of a recorded test or inspection.
 fn top_mask(ws: &[u32], row: usize) -> Mask
-    requires { ⌜ Stands (now ws) row ⌝ }
+    requires { ⌜ RowInside (now ws) row ⌝ }
     ensures { λ r. ⌜ r ≡ topIn (now (ws .entry)) row .mask ⌝ }
 {
     let height = row_height(ws, row) as usize;
@@ -53,25 +58,31 @@ pub fn is_recorded(ws: &[u32], row: usize) -> bool
 
 // An inspection that always says false.
 pub fn false_inspection(ws: &[u32], row: usize, op: u8) -> bool
-    requires { ⌜ Stands (now ws) row ⌝ }
+    requires { ⌜ RowInside (now ws) row ⌝ }
     ensures { λ r. ⌜ r ≡ falseIn (now (ws .entry)) row op ⌝ }
 {
     let m = top_mask(ws, row);
-    let inspected = if op == 40 { Mask::ENUM } else { Mask::STRUCT };
-    is_recorded(ws, row) & ((op == 40) | (op == 41)) & !m.has(inspected)
+    let inspected = if op == IS_ENUM {
+        Mask::ENUM
+    } else {
+        Mask::STRUCT
+    };
+    is_recorded(ws, row) & ((op == IS_ENUM) | (op == IS_STRUCT)) & !m.has(inspected)
 }
 
 // A test that always goes one way.
 pub fn known_branch(ws: &[u32], row: usize, op: u8) -> bool
-    requires { ⌜ Stands (now ws) row ⌝ }
+    requires { ⌜ RowInside (now ws) row ⌝ }
     ensures { λ r. ⌜ r ≡ decidedIn (now (ws .entry)) row op ⌝ }
 {
     let m = top_mask(ws, row);
-    is_recorded(ws, row) & ((op == 21) | (op == 27)) & (m.same(Mask::FALSE) | m.same(Mask::TRUE))
+    is_recorded(ws, row)
+        & ((op == IF) | (op == BREAK_IF))
+        & (m.same(Mask::FALSE) | m.same(Mask::TRUE))
 }
 
 pub fn branch_value(ws: &[u32], row: usize) -> u8
-    requires { ⌜ Stands (now ws) row ⌝ }
+    requires { ⌜ RowInside (now ws) row ⌝ }
     ensures { λ r. ⌜ r ≡ wayIn (now (ws .entry)) row ⌝ }
 {
     let m = top_mask(ws, row);

@@ -9,7 +9,7 @@ use borrow.Author.Tests.{eqb-true, not-false}
 use Rattle.masks.proofs.Both.{both}
 use Rattle.definition.specs.Module.{moduleOf}
 use Rattle.definition.specs.Report.{recordOf, recordBytes, inspectionBytes, branchBytes}
-use Rattle.form_laws.specs.Good.{chunkNo, lineNo}
+use Rattle.form_laws.specs.Good.{chunkNo}
 use Rattle.layout.specs.Layout.{rowAt}
 use Rattle.visit.specs.Held.{factsIn}
 use Rattle.run_state.specs.Course.{knownAs}
@@ -17,9 +17,10 @@ use Rattle.report_size.specs.Adds.{recordAt, inspectionAt, branchAt, addedFor}
 use Rattle.report_size.specs.recorded.Told.{recorded, falseIn, decidedIn, wayIn}
 use Rattle.report_size.proofs.Beside.{inspection-told, branch-told}
 use Rattle.report_size.proofs.Measured.{added-none}
+use Rattle.definition.specs.Leaves.{lineAt}
 
 module _ (s ws : List ℕ) (c i : ℕ) (number : chunkNo (moduleOf s) c .number ≡ c) (row : ℕ) (e : row ≡ rowAt (moduleOf s) c i) (op : ℕ)
-    (o : op ≡ lineNo (chunkNo (moduleOf s) c) i .instr .op) (tag : ℕ) where
+    (o : op ≡ lineAt (chunkNo (moduleOf s) c) i .instr .op) (tag : ℕ) where
   told-false : inspectionAt s ws c i ≡ cond (falseIn ws row op) (inspectionBytes (record { chunk = c; instruction = i })) []
   told-false = rw (e, o) (inspection-told s ws c i number)
 

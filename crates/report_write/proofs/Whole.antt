@@ -8,7 +8,7 @@ use Rattle.le.specs.Le.{le16, le32}
 use Rattle.definition.specs.Module.{moduleOf}
 use Rattle.definition.specs.Report.{field, slotBytes, reportBytes}
 use Rattle.layout.specs.declared.Tables.{Tables}
-use Rattle.layout.specs.Layout.{areaOf}
+use Rattle.layout.specs.Layout.{areaOf, headWords}
 use Rattle.layout.specs.Indexed.{Indexed, tablesOf}
 use Rattle.layout.proofs.Apart.{area-in}
 use Rattle.layout.proofs.Read.{chunks-are, slots-are, slot-is, signatures-are}
@@ -62,7 +62,7 @@ module _ (s ws : List ℕ) (t : Tables) (e : t ≡ tablesOf s) where
       )
 
   -- the slots stand in the workspace
-  pub slots-room : Indexed s ws → (64 + 16 * t .chunks + 16 * t .slots ≤ length ws) × (64 + 16 * t .chunks + 16 * t .slots < 4294967296)
+  pub slots-room : Indexed s ws → (headWords + 16 * t .chunks + 16 * t .slots ≤ length ws) × (headWords + 16 * t .chunks + 16 * t .slots < 4294967296)
   unfolding areaOf
   slots-room x =
       let a = area-in (moduleOf s) 0 (omega (arith, x .good .entry, x .good .signatures)) in

@@ -26,7 +26,7 @@ use words::load;
 ghost use mathlib.Core.Path.{_≡_};
 ghost use Prim.Native.Nat.{_+_, _*_, _^_, _<_, _≤_};
 ghost use lib.ListN.{length};
-ghost use Rattle.le.specs.Wrote.{put, Wrote};
+ghost use Rattle.le.specs.Wrote.{put, Wrote, WroteN};
 ghost use Rattle.definition.specs.Module.{row, moduleOf};
 ghost use Rattle.definition.specs.Report.{inspectionBytes, branchBytes, reportBytes};
 ghost use Rattle.layout.specs.Indexed.{Indexed, tablesOf, chunkAt};
@@ -34,18 +34,16 @@ ghost use Rattle.run_state.specs.Course.{Ended};
 ghost use Rattle.report_size.specs.Reporting.{Faultless, reportIn};
 ghost use Rattle.report_size.specs.Span.{span};
 ghost use Rattle.report_size.specs.Adds.{signatureAt, addedFor, chunkFor, chunksFor};
-ghost use Rattle.report_size.specs.recorded.Told.{Stands, wayIn};
+ghost use Rattle.report_size.specs.recorded.Told.{RowInside, wayIn};
 ghost use Rattle.report_size.specs.Here.{Finished, Here};
 ghost use Rattle.report_write.specs.records.Writes.{slotFrom};
+ghost use Rattle.layout.specs.Layout.{headWords};
 
 fn put_signature(s: &[u8], ws: &[u32], buf: &mut [u8], at: usize, c: usize) -> usize
     requires { ⌜ Indexed (now s) (now ws) ⌝ }
     requires { ⌜ c < length (moduleOf (now s) .chunks) ⌝ }
     requires { ⌜ at + length (signatureAt (now s) (now ws) c) ≤ length (now buf) ⌝ }
-    ensures { λ r. ⌜
-        Wrote (now (buf .entry)) at (length (signatureAt (now (s .entry)) (now (ws .entry)) c)) (signatureAt (now (s .entry)) (now (ws .entry)) c)
-        (now (buf .exit)) r
-        ⌝ }
+    ensures { λ r. ⌜ Wrote (now (buf .entry)) at (signatureAt (now (s .entry)) (now (ws .entry)) c) (now (buf .exit)) r ⌝ }
 {
     let ch = chunk_at(s, ws, c);
     let at = put_head(buf, at, 17, 2 + 49 * (ch.params + 1));
@@ -57,10 +55,7 @@ fn put_signatures(s: &[u8], ws: &[u32], buf: &mut [u8], at: usize, t: Tables) ->
     requires { ⌜ Indexed (now s) (now ws) ⌝ }
     requires { ⌜ t ≡ tablesOf (now s) ⌝ }
     requires { ⌜ at + length (span (signatureAt (now s) (now ws)) 0 (t .signatures)) ≤ length (now buf) ⌝ }
-    ensures { λ r. ⌜
-        Wrote (now (buf .entry)) at (length (span (signatureAt (now (s .entry)) (now (ws .entry))) 0 (t .signatures)))
-        (span (signatureAt (now (s .entry)) (now (ws .entry))) 0 (t .signatures)) (now (buf .exit)) r
-        ⌝ }
+    ensures { λ r. ⌜ Wrote (now (buf .entry)) at (span (signatureAt (now (s .entry)) (now (ws .entry))) 0 (t .signatures)) (now (buf .exit)) r ⌝ }
 {
     let mut c = 0;
     let mut to = at;
@@ -76,7 +71,7 @@ fn put_slot(ws: &[u32], buf: &mut [u8], at: usize, t: Tables, slot: usize) -> us
     requires { ⌜ 80 + 16 * t .chunks + 16 * slot ≤ length (now ws) ⌝ }
     requires { ⌜ 80 + 16 * t .chunks + 16 * slot < 2 ^ 62 ⌝ }
     requires { ⌜ at + 52 ≤ length (now buf) ⌝ }
-    ensures { λ r. ⌜ Wrote (now (buf .entry)) at 52 (slotFrom (now (ws .entry)) (t .chunks) slot) (now (buf .exit)) r ⌝ }
+    ensures { λ r. ⌜ WroteN (now (buf .entry)) at 52 (slotFrom (now (ws .entry)) (t .chunks) slot) (now (buf .exit)) r ⌝ }
 {
     let c = load(ws, slot_at(t, slot));
     let mask = c.mask;
@@ -94,13 +89,10 @@ fn put_slot(ws: &[u32], buf: &mut [u8], at: usize, t: Tables, slot: usize) -> us
 }
 
 fn put_slots(ws: &[u32], buf: &mut [u8], at: usize, t: Tables) -> usize
-    requires { ⌜ 64 + 16 * t .chunks + 16 * t .slots ≤ length (now ws) ⌝ }
-    requires { ⌜ 64 + 16 * t .chunks + 16 * t .slots < 2 ^ 62 ⌝ }
+    requires { ⌜ headWords + 16 * t .chunks + 16 * t .slots ≤ length (now ws) ⌝ }
+    requires { ⌜ headWords + 16 * t .chunks + 16 * t .slots < 2 ^ 62 ⌝ }
     requires { ⌜ at + length (span (slotFrom (now ws) (t .chunks)) 0 (t .slots)) ≤ length (now buf) ⌝ }
-    ensures { λ r. ⌜
-        Wrote (now (buf .entry)) at (length (span (slotFrom (now (ws .entry)) (t .chunks)) 0 (t .slots)))
-        (span (slotFrom (now (ws .entry)) (t .chunks)) 0 (t .slots)) (now (buf .exit)) r
-        ⌝ }
+    ensures { λ r. ⌜ Wrote (now (buf .entry)) at (span (slotFrom (now (ws .entry)) (t .chunks)) 0 (t .slots)) (now (buf .exit)) r ⌝ }
 {
     let mut k = 0;
     let mut to = at;
@@ -114,18 +106,18 @@ fn put_slots(ws: &[u32], buf: &mut [u8], at: usize, t: Tables) -> usize
 fn put_inspection(buf: &mut [u8], at: usize, c: usize, i: usize) -> usize
     requires { ⌜ (c < 65536) × (i < 65536) ⌝ }
     requires { ⌜ at + 7 ≤ length (now buf) ⌝ }
-    ensures { λ r. ⌜ Wrote (now (buf .entry)) at 7 (inspectionBytes (record { chunk = c; instruction = i })) (now (buf .exit)) r ⌝ }
+    ensures { λ r. ⌜ WroteN (now (buf .entry)) at 7 (inspectionBytes (record { chunk = c; instruction = i })) (now (buf .exit)) r ⌝ }
 {
     let at = put_head(buf, at, 20, 4);
     put_place(buf, at, c, i)
 }
 
 fn put_branch(ws: &[u32], buf: &mut [u8], at: usize, row: usize, c: usize, i: usize) -> usize
-    requires { ⌜ Stands (now ws) row ⌝ }
+    requires { ⌜ RowInside (now ws) row ⌝ }
     requires { ⌜ (c < 65536) × (i < 65536) ⌝ }
     requires { ⌜ at + 8 ≤ length (now buf) ⌝ }
     ensures { λ r. ⌜
-        Wrote (now (buf .entry)) at 8 (branchBytes (record { chunk = c; instruction = i; value = wayIn (now (ws .entry)) row })) (now (buf .exit)) r
+        WroteN (now (buf .entry)) at 8 (branchBytes (record { chunk = c; instruction = i; value = wayIn (now (ws .entry)) row })) (now (buf .exit)) r
         ⌝ }
 {
     let at = put_head(buf, at, 21, 5);
@@ -147,10 +139,7 @@ fn put_instr(
     requires { ⌜ Finished (now s) (now ws) t ⌝ }
     requires { ⌜ Here (now s) (now ws) c (chunkAt (now s) (now ws) c) i ⌝ }
     requires { ⌜ at + length (addedFor (now s) (now ws) tag c i) ≤ length (now buf) ⌝ }
-    ensures { λ r. ⌜
-        Wrote (now (buf .entry)) at (length (addedFor (now (s .entry)) (now (ws .entry)) tag c i)) (addedFor (now (s .entry)) (now (ws .entry)) tag c i)
-        (now (buf .exit)) r
-        ⌝ }
+    ensures { λ r. ⌜ Wrote (now (buf .entry)) at (addedFor (now (s .entry)) (now (ws .entry)) tag c i) (now (buf .exit)) r ⌝ }
 {
     let ch = chunk_at(s, ws, c);
     let row = row_at(ch, i);
@@ -171,10 +160,7 @@ fn put_chunk(s: &[u8], ws: &[u32], buf: &mut [u8], at: usize, t: Tables, c: usiz
     requires { ⌜ Finished (now s) (now ws) t ⌝ }
     requires { ⌜ c < length (moduleOf (now s) .chunks) ⌝ }
     requires { ⌜ at + length (chunkFor (now s) (now ws) tag c) ≤ length (now buf) ⌝ }
-    ensures { λ r. ⌜
-        Wrote (now (buf .entry)) at (length (chunkFor (now (s .entry)) (now (ws .entry)) tag c)) (chunkFor (now (s .entry)) (now (ws .entry)) tag c)
-        (now (buf .exit)) r
-        ⌝ }
+    ensures { λ r. ⌜ Wrote (now (buf .entry)) at (chunkFor (now (s .entry)) (now (ws .entry)) tag c) (now (buf .exit)) r ⌝ }
 {
     let ch = chunk_at(s, ws, c);
     let n = recorded_count(ch);
@@ -190,10 +176,7 @@ fn put_chunk(s: &[u8], ws: &[u32], buf: &mut [u8], at: usize, t: Tables, c: usiz
 fn put_chunks(s: &[u8], ws: &[u32], buf: &mut [u8], at: usize, t: Tables, tag: u8) -> usize
     requires { ⌜ Finished (now s) (now ws) t ⌝ }
     requires { ⌜ at + length (chunksFor (now s) (now ws) tag) ≤ length (now buf) ⌝ }
-    ensures { λ r. ⌜
-        Wrote (now (buf .entry)) at (length (chunksFor (now (s .entry)) (now (ws .entry)) tag)) (chunksFor (now (s .entry)) (now (ws .entry)) tag)
-        (now (buf .exit)) r
-        ⌝ }
+    ensures { λ r. ⌜ Wrote (now (buf .entry)) at (chunksFor (now (s .entry)) (now (ws .entry)) tag) (now (buf .exit)) r ⌝ }
 {
     let mut c = 0;
     let mut to = at;

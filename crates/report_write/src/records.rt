@@ -1,11 +1,11 @@
 // The record of an instruction, written: its place, its counts, cells, outputs and guards. Each write answers the place after it.
-use cells::Cell;
 use checks::check_place;
 use checks::places_asked;
 use checks::want_at;
 use definition::Check;
 use definition::Made;
 use definition::Want;
+use definition::output;
 use index::chunk_at;
 use layout::Chunk;
 use layout::Tables;
@@ -18,14 +18,14 @@ use report_cells::put_head;
 use report_cells::put_stored;
 use report_size::count_guards;
 use report_size::record_len;
-use visit::Visit;
+use visit::RowVisit;
 use visit::visit_at;
 ghost use mathlib.Core.Path.{_≡_};
 ghost use mathlib.Core.List.{[], _++_};
 ghost use Prim.Native.Nat.{_+_, _*_, _<_, _≤_};
 ghost use lib.ListN.{length, getD};
 ghost use Rattle.le.specs.Le.{le16};
-ghost use Rattle.le.specs.Wrote.{Wrote};
+ghost use Rattle.le.specs.Wrote.{Wrote, WroteN};
 ghost use Rattle.words.specs.Rows.{cellsAt};
 ghost use Rattle.definition.specs.Module.{row, moduleOf};
 ghost use Rattle.definition.specs.Outputs.{output};
@@ -43,7 +43,7 @@ ghost use Rattle.report_write.specs.records.Values.{valuesIn};
 pub fn put_cells(ws: &[u32], buf: &mut [u8], at: usize, word: usize, n: usize) -> usize
     requires { ⌜ word + 16 * n ≤ length (now ws) ⌝ }
     requires { ⌜ at + 49 * n ≤ length (now buf) ⌝ }
-    ensures { λ r. ⌜ Wrote (now (buf .entry)) at (49 * n) (cellsBytes (cellsAt (now (ws .entry)) word n)) (now (buf .exit)) r ⌝ }
+    ensures { λ r. ⌜ WroteN (now (buf .entry)) at (49 * n) (cellsBytes (cellsAt (now (ws .entry)) word n)) (now (buf .exit)) r ⌝ }
 {
     let mut k = 0;
     let mut to = at;
@@ -54,24 +54,11 @@ pub fn put_cells(ws: &[u32], buf: &mut [u8], at: usize, word: usize, n: usize) -
     to
 }
 
-// The output k.
-fn output(m: Made, k: usize) -> Cell
-    ensures { λ r. ⌜ r ≡ output m k ⌝ }
-{
-    if k == 0 {
-        return m.first;
-    }
-    if k == 1 {
-        return m.second;
-    }
-    m.rest
-}
-
-fn put_outputs(buf: &mut [u8], at: usize, v: Visit, made: Made) -> usize
+fn put_outputs(buf: &mut [u8], at: usize, v: RowVisit, made: Made) -> usize
     requires { ⌜ v .start + v .ins .given ≤ 65536 ⌝ }
     requires { ⌜ at + 51 * v .ins .given ≤ length (now buf) ⌝ }
     ensures { λ r. ⌜
-        Wrote (now (buf .entry)) at (51 * v .ins .given) (outputsBytes (placed (v .start) (row (output made) 0 (v .ins .given)))) (now (buf .exit)) r
+        WroteN (now (buf .entry)) at (51 * v .ins .given) (outputsBytes (placed (v .start) (row (output made) 0 (v .ins .given)))) (now (buf .exit)) r
         ⌝ }
 {
     let ins = v.ins;
@@ -89,9 +76,7 @@ fn put_outputs(buf: &mut [u8], at: usize, v: Visit, made: Made) -> usize
 fn put_guard(buf: &mut [u8], at: usize, p: usize, c: Check) -> usize
     requires { ⌜ p < 65536 ⌝ }
     requires { ⌜ at + length (guardsBytes (guardOf p c [])) ≤ length (now buf) ⌝ }
-    ensures { λ r. ⌜
-        Wrote (now (buf .entry)) at (length (guardsBytes (guardOf p c []))) (guardsBytes (guardOf p c [])) (now (buf .exit)) r
-        ⌝ }
+    ensures { λ r. ⌜ Wrote (now (buf .entry)) at (guardsBytes (guardOf p c [])) (now (buf .exit)) r ⌝ }
 {
     match c {
         Check::Guard(m) => {
@@ -110,16 +95,13 @@ fn put_guards(
     buf: &mut [u8],
     at: usize,
     t: Tables,
-    v: Visit,
+    v: RowVisit,
     want: Want,
 ) -> usize
     requires { ⌜ Asking (now s) (now ws) v want ⌝ }
     requires { ⌜ t ≡ tablesOf (now s) ⌝ }
     requires { ⌜ at + length (guardsBytes (guards (visitIn (now s) (now ws) v))) ≤ length (now buf) ⌝ }
-    ensures { λ r. ⌜
-        Wrote (now (buf .entry)) at (length (guardsBytes (guards (visitIn (now (s .entry)) (now (ws .entry)) v))))
-        (guardsBytes (guards (visitIn (now (s .entry)) (now (ws .entry)) v))) (now (buf .exit)) r
-        ⌝ }
+    ensures { λ r. ⌜ Wrote (now (buf .entry)) at (guardsBytes (guards (visitIn (now (s .entry)) (now (ws .entry)) v))) (now (buf .exit)) r ⌝ }
 {
     let places = places_asked(v, want);
     let mut p = places.from;
@@ -131,11 +113,11 @@ fn put_guards(
     to
 }
 
-fn put_counts(buf: &mut [u8], at: usize, ch: Chunk, v: Visit, guards: usize) -> usize
+fn put_counts(buf: &mut [u8], at: usize, ch: Chunk, v: RowVisit, guards: usize) -> usize
     requires { ⌜ (v .height < 65536) × (ch .locals < 65536) × (guards < 65536) ⌝ }
     requires { ⌜ at + 8 ≤ length (now buf) ⌝ }
     ensures { λ r. ⌜
-        Wrote (now (buf .entry)) at 8 (le16 (v .height) ++ (le16 (ch .locals) ++ (le16 (v .ins .given) ++ le16 guards))) (now (buf .exit)) r
+        WroteN (now (buf .entry)) at 8 (le16 (v .height) ++ (le16 (ch .locals) ++ (le16 (v .ins .given) ++ le16 guards))) (now (buf .exit)) r
         ⌝ }
 {
     let ins = v.ins;
@@ -148,7 +130,7 @@ fn put_counts(buf: &mut [u8], at: usize, ch: Chunk, v: Visit, guards: usize) -> 
 pub fn put_place(buf: &mut [u8], at: usize, c: usize, i: usize) -> usize
     requires { ⌜ (c < 65536) × (i < 65536) ⌝ }
     requires { ⌜ at + 4 ≤ length (now buf) ⌝ }
-    ensures { λ r. ⌜ Wrote (now (buf .entry)) at 4 (le16 c ++ le16 i) (now (buf .exit)) r ⌝ }
+    ensures { λ r. ⌜ WroteN (now (buf .entry)) at 4 (le16 c ++ le16 i) (now (buf .exit)) r ⌝ }
 {
     let at = put16(buf, at, (c % 65536) as u16);
     put16(buf, at, (i % 65536) as u16)
@@ -162,17 +144,14 @@ fn put_values(
     at: usize,
     t: Tables,
     ch: Chunk,
-    v: Visit,
+    v: RowVisit,
     want: Want,
 ) -> usize
     requires { ⌜ Asking (now s) (now ws) v want ⌝ }
     requires { ⌜ t ≡ tablesOf (now s) ⌝ }
     requires { ⌜ ch ≡ chunkAt (now s) (now ws) (v .chunk) ⌝ }
     requires { ⌜ at + length (valuesIn (now s) (now ws) v) ≤ length (now buf) ⌝ }
-    ensures { λ r. ⌜
-        Wrote (now (buf .entry)) at (length (valuesIn (now (s .entry)) (now (ws .entry)) v)) (valuesIn (now (s .entry)) (now (ws .entry)) v)
-        (now (buf .exit)) r
-        ⌝ }
+    ensures { λ r. ⌜ Wrote (now (buf .entry)) at (valuesIn (now (s .entry)) (now (ws .entry)) v) (now (buf .exit)) r ⌝ }
 {
     let at = put_cells(ws, buf, at, place_at(v.row, 0), v.height);
     let at = put_cells(ws, buf, at, local_at(ch, v.row, 0), ch.locals);
@@ -193,10 +172,7 @@ pub fn put_record(
     requires { ⌜ Here (now s) (now ws) c (chunkAt (now s) (now ws) c) i ⌝ }
     requires { ⌜ 0 < getD (now ws) (rowAt (moduleOf (now s)) c i) 0 ⌝ }
     requires { ⌜ at + length (recordAt (now s) (now ws) c i) ≤ length (now buf) ⌝ }
-    ensures { λ r. ⌜
-        Wrote (now (buf .entry)) at (length (recordAt (now (s .entry)) (now (ws .entry)) c i)) (recordAt (now (s .entry)) (now (ws .entry)) c i)
-        (now (buf .exit)) r
-        ⌝ }
+    ensures { λ r. ⌜ Wrote (now (buf .entry)) at (recordAt (now (s .entry)) (now (ws .entry)) c i) (now (buf .exit)) r ⌝ }
 {
     let ch = chunk_at(s, ws, c);
     let v = visit_at(s, ws, c, ch, i);

@@ -10,7 +10,7 @@ use lib.ListN.{length, getD, set, length-set}
 use lib.Seq.{getD-set-same, getD-set-other}
 use borrow.Author.Tests.{ltb-true, ltb-false, lt-ltb, le-ltb}
 use Rattle.ring.specs.declared.Queue.{Queue}
-use Rattle.ring.specs.Ring.{Ready, capOf, dueOf, entryAt, grown, poppedOf, pushed, queueOf, slot, tab, wrapOf}
+use Rattle.ring.specs.Ring.{QueueReady, capOf, dueOf, entryAt, grown, poppedOf, pushed, queueOf, slot, tab, wrapOf}
 
 pub tab-eq : {A : Type 0} (f g : ℕ → A) (n k : ℕ) → ((q : ℕ) → k ≤ q → q < k + n → f q ≡ g q) → tab f k n ≡ tab g k n
 tab-eq f g zero k e = refl
@@ -64,7 +64,7 @@ unfolding pushed
 length-pushed w base q x = length-set w _ x
 
 -- a push puts its entry last
-pub entries-push : (w : List ℕ) (base : ℕ) (q : Queue) (x : ℕ) → Ready w base q → q .count < capOf w base → queueOf (pushed w base q x) base (grown q) ≡ queueOf w base q ++ (x ∷ [])
+pub entries-push : (w : List ℕ) (base : ℕ) (q : Queue) (x : ℕ) → QueueReady w base q → q .count < capOf w base → queueOf (pushed w base q x) base (grown q) ≡ queueOf w base q ++ (x ∷ [])
 unfolding queueOf pushed slot
 entries-push w base q x r l =
     ap (λ (c : ℕ). tab (entryAt v base c h) 0 (n + 1)) (ap (λ (k : ℕ). k - base) (length-set w _ x))
@@ -93,7 +93,7 @@ entries-push w base q x r l =
     new = getD-set-same w (base + wrapOf (h + n) cap) x 0 (omega (arith, r .fits, wrap-lt (h + n) cap (omega (arith, r .head))))
 
 -- a pop takes the first
-pub entries-pop : (w : List ℕ) (base : ℕ) (q : Queue) → Ready w base q → 0 < q .count → queueOf w base q ≡ dueOf w base q ∷ queueOf w base (poppedOf w base q)
+pub entries-pop : (w : List ℕ) (base : ℕ) (q : Queue) → QueueReady w base q → 0 < q .count → queueOf w base q ≡ dueOf w base q ∷ queueOf w base (poppedOf w base q)
 unfolding queueOf slot
 entries-pop w base q r l = go (q .count) (r .count) l
   where
@@ -114,12 +114,12 @@ entries-pop w base q r l = go (q .count) (r .count) l
         ∙ ap (tab (entryAt w base cap (wrapOf (h + 1) cap)) 0) (sym p))
 
 -- the queue is ready again
-pub ready-push : (w : List ℕ) (base : ℕ) (q : Queue) (x : ℕ) → Ready w base q → q .count < capOf w base → Ready (pushed w base q x) base (grown q)
+pub ready-push : (w : List ℕ) (base : ℕ) (q : Queue) (x : ℕ) → QueueReady w base q → q .count < capOf w base → QueueReady (pushed w base q x) base (grown q)
 ready-push w base q x r l =
     let e = length-pushed w base q x in
     record { fits = omega (arith, r .fits); head = omega (arith, r .head); count = omega arith }
 
-pub ready-pop : (w : List ℕ) (base : ℕ) (q : Queue) → Ready w base q → 0 < q .count → Ready w base (poppedOf w base q)
+pub ready-pop : (w : List ℕ) (base : ℕ) (q : Queue) → QueueReady w base q → 0 < q .count → QueueReady w base (poppedOf w base q)
 ready-pop w base q r l =
     record {
       fits = r .fits;

@@ -10,7 +10,7 @@ abbrev pub wrapOf : ℕ → ℕ → ℕ
 wrapOf t cap = cond (ltb t cap) t (t - cap)
 
 -- the words have room, and the queue stands in them
-pub record Ready (w : List ℕ) (base : ℕ) (q : Queue) : Type 0 where
+pub record QueueReady (w : List ℕ) (base : ℕ) (q : Queue) : Type 0 where
   pub fits : base ≤ length w
   pub head : q .head < length w - base
   pub count : q .count ≤ length w - base

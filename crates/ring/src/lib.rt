@@ -1,8 +1,8 @@
 // A ring of entries in the words from base on, as many as there are.
 ghost use mathlib.Core.Path.{_≡_};
-ghost use Prim.Native.Nat.{ℕ, _+_, _-_, _≤_, _<_};
+ghost use Prim.Native.Nat.{_+_, _-_, _<_};
 ghost use lib.ListN.{length};
-ghost use Rattle.ring.specs.Ring.{wrapOf, pushed, grown, dueOf, poppedOf, Ready};
+ghost use Rattle.ring.specs.Ring.{wrapOf, pushed, grown, dueOf, poppedOf, QueueReady};
 
 pub struct Queue {
     pub head: usize,
@@ -17,7 +17,7 @@ fn wrap(at: usize, cap: usize) -> usize
 
 // Puts an entry at the end; the caller has seen that there is room.
 pub fn push(ws: &mut [u32], base: usize, q: Queue, entry: u32) -> Queue
-    requires { ⌜ Ready (now ws) base q ⌝ }
+    requires { ⌜ QueueReady (now ws) base q ⌝ }
     requires { ⌜ q .count < length (now ws) - base ⌝ }
     ensures { λ r. ⌜ (now (ws .exit) ≡ pushed (now (ws .entry)) base q entry) × (r ≡ grown q) ⌝ }
 {
@@ -32,7 +32,7 @@ pub fn push(ws: &mut [u32], base: usize, q: Queue, entry: u32) -> Queue
 
 // The entry due; the caller has seen that there is one.
 pub fn peek(ws: &[u32], base: usize, q: Queue) -> u32
-    requires { ⌜ Ready (now ws) base q ⌝ }
+    requires { ⌜ QueueReady (now ws) base q ⌝ }
     ensures { λ r. ⌜ r ≡ dueOf (now (ws .entry)) base q ⌝ }
 {
     let head = q.head;
@@ -41,7 +41,7 @@ pub fn peek(ws: &[u32], base: usize, q: Queue) -> u32
 
 // The queue without the entry due.
 pub fn popped(ws: &[u32], base: usize, q: Queue) -> Queue
-    requires { ⌜ Ready (now ws) base q ⌝ }
+    requires { ⌜ QueueReady (now ws) base q ⌝ }
     requires { ⌜ 0 < q .count ⌝ }
     ensures { λ r. ⌜ r ≡ poppedOf (now (ws .entry)) base q ⌝ }
 {

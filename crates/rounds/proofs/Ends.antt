@@ -22,7 +22,7 @@ use Rattle.run_state.specs.Course.{statesIn, pastIn, machineIn, finalIn, roomIn
 use Rattle.rounds.specs.declared.entering.Settled.{Settled}
 use Rattle.rounds.specs.declared.entering.Settled.the-variants.{Due, Done, Stop}
 use Rattle.rounds.specs.entering.Entering.{whereIn, Goes, Opened}
-use Rattle.rounds.specs.entering.Reach.{Reached}
+use Rattle.rounds.specs.entering.Reach.{NextReachable}
 use Rattle.rounds.proofs.entering.Reach.{past-more}
 use Rattle.rounds.specs.entering.Began.{Began}
 use Rattle.rounds.specs.inspecting.Fault.{Inspected}
@@ -47,7 +47,7 @@ pub low-after : (s ws : List ℕ) (r : Run) → Between s ws r → LowBefore s w
 unfolding LowBefore
 low-after s ws r x k l e = below-more (λ (j : ℕ). chunkNo (moduleOf s) j .reachable ≡ true → Low s ws j) (r .chunk) (λ j m q. x .before j m q) (λ q. x .low) k l e
 
-module _ (s ws : List ℕ) (r : Run) (x : Between s ws r) (n : ℕ) (y : Reached s (r .chunk + 1) n) where
+module _ (s ws : List ℕ) (r : Run) (x : Between s ws r) (n : ℕ) (y : NextReachable s (r .chunk + 1) n) where
   -- the states of this chunk are the last of those before the next
   goes-from : onwardIn s (roomIn s ws) (machineIn s ws r) none
       ≡ enter join (roomIn s ws) (knownAs s .code .chunks) (λ c. c .reachable) start afterChunk opened (λ x. x .known) (absorb (knownAs s .code)) moved closed

@@ -1,4 +1,4 @@
-// A chunk begins, a round begins; what is looked for after a chunk was validated.
+// The next reachable chunk; a chunk begins, a round or validation begins.
 use answers::Refusal;
 use cells::Cell;
 use index::chunk_at;
@@ -22,7 +22,7 @@ ghost use Rattle.form_laws.specs.Good.{chunkNo};
 ghost use Rattle.layout.specs.Indexed.{Indexed, tablesOf};
 ghost use Rattle.run_state.specs.Course.{Prepared, LowBefore};
 ghost use Rattle.rounds.specs.entering.Entering.{Opened};
-ghost use Rattle.rounds.specs.entering.Reach.{Reached};
+ghost use Rattle.rounds.specs.entering.Reach.{NextReachable};
 ghost use Rattle.rounds.specs.entering.Rows.{RowsThere, Cleared, LocalsThere, FilledAt, Filled};
 ghost use Rattle.rounds.specs.entering.Began.{Began};
 
@@ -38,7 +38,7 @@ pub fn next_reachable(s: &[u8], ws: &[u32], t: Tables, from: usize) -> usize
     requires { ⌜ Indexed (now s) (now ws) ⌝ }
     requires { ⌜ t ≡ tablesOf (now s) ⌝ }
     requires { ⌜ from ≤ t .chunks ⌝ }
-    ensures { λ r. ⌜ Reached (now (s .entry)) from r ⌝ }
+    ensures { λ r. ⌜ NextReachable (now (s .entry)) from r ⌝ }
 {
     let mut c = from;
     while c < t.chunks {

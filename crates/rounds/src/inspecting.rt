@@ -1,5 +1,6 @@
 // The inspections of a chunk: 16 or 17 for one whose receiver is not known well enough.
 use answers::Refusal;
+use answers::refuse;
 use cells::Cell;
 use extents::Size;
 use index::chunk_at;
@@ -8,7 +9,8 @@ use index::row_height;
 use layout::place_at;
 use layout::row_at;
 use masks::Mask;
-use run_state::refuse;
+use ops::IS_ENUM;
+use ops::IS_STRUCT;
 use words::load;
 ghost use mathlib.Core.Path.{_≡_};
 ghost use mathlib.Core.Bool.{true};
@@ -30,12 +32,12 @@ fn below_discriminant(size: Size) -> bool
     }
 }
 
-// 16 or 17 for an inspection (op 40 or 41) of a receiver that is not known well enough, or 0.
+// 16 or 17 for an inspection of a receiver that is not known well enough, or 0.
 fn receiver_fault(op: u8, c: Cell) -> u8
     ensures { λ r. ⌜ r ≡ receiverFault op c ⌝ }
 {
     let m = c.mask;
-    if op == 41 {
+    if op == IS_STRUCT {
         return if m.has(Mask::STRUCT) & !m.same(Mask::STRUCT) {
             17
         } else {
@@ -56,7 +58,7 @@ fn inspection_fault(ws: &[u32], row: usize, op: u8) -> u8
     ensures { λ r. ⌜ ((stack locals : ℕ) → r ≡ opFault op (stateIn (now (ws .entry)) row stack locals)) ⌝ }
 {
     let height = row_height(ws, row) as usize;
-    if ((op != 40) & (op != 41)) | (height < 2) {
+    if ((op != IS_ENUM) & (op != IS_STRUCT)) | (height < 2) {
         return 0;
     }
     receiver_fault(op, load(ws, place_at(row, height - 2)))

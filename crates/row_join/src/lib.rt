@@ -1,4 +1,5 @@
-// What leaves an instruction along one way, joined into the row of its target, place by place: how it meets what stands there.
+// What leaves an instruction along one way, joined into the row of its target: locals and stack kept (`joining`) or reset (`resetting`), place
+// by place (`places`). Here: how it meets what stands there.
 pub mod joining;
 pub mod places;
 mod resetting;
@@ -15,11 +16,11 @@ ghost use mathlib.Core.Path.{_≡_};
 ghost use Prim.Native.Nat.{_+_};
 ghost use lib.ListN.{getD};
 ghost use Rattle.words.specs.Rows.{Outside};
-ghost use Rattle.row_join.specs.joining.Leave.{Ready, leavesAs, stateIn, metState, metHow, metWord, rowWords};
+ghost use Rattle.row_join.specs.joining.Leave.{JoinReady, leavesAs, stateIn, metState, metHow, metWord, rowWords};
 ghost use Rattle.row_join.specs.joining.Left.{howOf, Left};
 
 fn leave_by(ws: &mut [u32], ch: Chunk, w: Way, fresh: bool, l: Leaving) -> bool
-    requires { ⌜ Ready (now ws) ch w l ⌝ }
+    requires { ⌜ JoinReady (now ws) ch w l ⌝ }
     ensures { λ r. ⌜ Left fresh ch (w .to) (l .height) (leavesAs (now (ws .entry)) ch w l) (now (ws .entry)) (now (ws .exit)) r ⌝ }
 {
     if l.resets {
@@ -36,7 +37,7 @@ fn how(changed: bool) -> Met
 
 // Joins what leaves into the row of the target; a row of another height is left as it is.
 pub fn leave(ws: &mut [u32], ch: Chunk, w: Way, l: Leaving) -> Met
-    requires { ⌜ Ready (now ws) ch w l ⌝ }
+    requires { ⌜ JoinReady (now ws) ch w l ⌝ }
     ensures { λ r. ⌜
         (stateIn (now (ws .exit)) (w .to) (ch .stack) (ch .locals)
         ≡ metState (stateIn (now (ws .entry)) (w .to) (ch .stack) (ch .locals)) (leavesAs (now (ws .entry)) ch w l))

@@ -2,8 +2,9 @@
 use cells::Cell;
 use cells::JoinedCell;
 use definition::Made;
+use definition::output;
 use flows::Origin;
-use layout::NONE;
+use layout::NO_LOCAL;
 use words::copy16;
 use words::is_plain;
 use words::load;
@@ -13,11 +14,10 @@ ghost use mathlib.Core.Path.{_≡_};
 ghost use mathlib.Core.List.{[], _∷_, map};
 ghost use Prim.Native.Nat.{_+_, _*_, _≤_};
 ghost use lib.ListN.{length};
-ghost use Rattle.definition.specs.Outputs.{output as outputOf};
 ghost use Rattle.definition.specs.Ways.{isFrom, narrowStack, outputList};
 ghost use Rattle.words.specs.Layout.{cellAt};
 ghost use Rattle.words.specs.Rows.{cellsAt};
-ghost use Rattle.row_join.specs.places.Arrive.{metCell, keptCell, untouchedAt, Places, Arrived};
+ghost use Rattle.row_join.specs.places.Arrive.{metCell, keptCell, untouchedAt, PlacesApart, Arrived};
 
 // A cell arrives where another stands, or at a fresh place.
 fn meet(fresh: bool, old: Cell, new: Cell) -> JoinedCell
@@ -61,14 +61,14 @@ fn narrowed_with(c: Cell, narrow: u16) -> Cell
     c
 }
 
-// A kept cell without what names the local forget, narrowed if it came from the local narrow.
+// A cell that is kept: it forgets the local `forget`; or it is narrowed to ENUM if its origin is the local `narrow`. No instruction does both.
 fn kept(c: Cell, forget: u16, narrow: u16) -> Cell
     ensures { λ r. ⌜ r ≡ keptCell forget narrow c ⌝ }
 {
-    if forget != NONE {
+    if forget != NO_LOCAL {
         return c.invalidate(forget);
     }
-    if narrow != NONE {
+    if narrow != NO_LOCAL {
         return narrowed_with(c, narrow);
     }
     c
@@ -79,12 +79,12 @@ fn untouched(ws: &[u32], from: usize, forget: u16, narrow: u16) -> bool
     requires { ⌜ from + 16 ≤ length (now ws) ⌝ }
     ensures { λ r. ⌜ r ≡ untouchedAt (now (ws .entry)) from forget narrow ⌝ }
 {
-    ((forget == NONE) & (narrow == NONE)) | is_plain(ws, from)
+    ((forget == NO_LOCAL) & (narrow == NO_LOCAL)) | is_plain(ws, from)
 }
 
 // The cell that is kept is joined.
 fn join_kept(ws: &mut [u32], from: usize, to: usize, fresh: bool, forget: u16, narrow: u16) -> bool
-    requires { ⌜ Places (now ws) from to 1 ⌝ }
+    requires { ⌜ PlacesApart (now ws) from to 1 ⌝ }
     ensures { λ r. ⌜ Arrived fresh to 1 (keptCell forget narrow (cellAt (now (ws .entry)) from) ∷ []) (now (ws .entry)) (now (ws .exit)) r ⌝ }
 {
     let c = kept(load(ws, from), forget, narrow);
@@ -92,7 +92,7 @@ fn join_kept(ws: &mut [u32], from: usize, to: usize, fresh: bool, forget: u16, n
 }
 
 fn keep_same(ws: &mut [u32], from: usize, to: usize, fresh: bool) -> bool
-    requires { ⌜ Places (now ws) from to 1 ⌝ }
+    requires { ⌜ PlacesApart (now ws) from to 1 ⌝ }
     ensures { λ r. ⌜ Arrived fresh to 1 (cellAt (now (ws .entry)) from ∷ []) (now (ws .entry)) (now (ws .exit)) r ⌝ }
 {
     if fresh {
@@ -102,12 +102,12 @@ fn keep_same(ws: &mut [u32], from: usize, to: usize, fresh: bool) -> bool
     if same16(ws, from, to) {
         return false;
     }
-    join_kept(ws, from, to, false, NONE, NONE)
+    join_kept(ws, from, to, false, NO_LOCAL, NO_LOCAL)
 }
 
 // One kept place. Where nothing in it is touched, its words are compared or copied.
 fn keep_one(ws: &mut [u32], from: usize, to: usize, fresh: bool, forget: u16, narrow: u16) -> bool
-    requires { ⌜ Places (now ws) from to 1 ⌝ }
+    requires { ⌜ PlacesApart (now ws) from to 1 ⌝ }
     ensures { λ r. ⌜ Arrived fresh to 1 (keptCell forget narrow (cellAt (now (ws .entry)) from) ∷ []) (now (ws .entry)) (now (ws .exit)) r ⌝ }
 {
     if untouched(ws, from, forget, narrow) {
@@ -116,7 +116,7 @@ fn keep_one(ws: &mut [u32], from: usize, to: usize, fresh: bool, forget: u16, na
     join_kept(ws, from, to, fresh, forget, narrow)
 }
 
-// The places from on and to on, n of them.
+// n places, one behind another: what stands from word `from` on arrives from word `to` on. Answers whether one of them changed.
 pub fn keep_all(
     ws: &mut [u32],
     from: usize,
@@ -126,7 +126,7 @@ pub fn keep_all(
     forget: u16,
     narrow: u16,
 ) -> bool
-    requires { ⌜ Places (now ws) from to n ⌝ }
+    requires { ⌜ PlacesApart (now ws) from to n ⌝ }
     ensures { λ r. ⌜ Arrived fresh to n (map (keptCell forget narrow) (cellsAt (now (ws .entry)) from n)) (now (ws .entry)) (now (ws .exit)) r ⌝ }
 {
     let mut p = 0;
@@ -136,19 +136,6 @@ pub fn keep_all(
         p += 1;
     }
     changed
-}
-
-// The output k.
-fn output(m: Made, k: usize) -> Cell
-    ensures { λ r. ⌜ r ≡ outputOf m k ⌝ }
-{
-    if k == 0 {
-        return m.first;
-    }
-    if k == 1 {
-        return m.second;
-    }
-    m.rest
 }
 
 // The outputs, from the place to on.

@@ -5,6 +5,7 @@ use crate::places::join_one;
 use crate::places::put_outputs;
 use cells::Cell;
 use layout::Chunk;
+use layout::ROW_HEAD;
 use words::load;
 ghost use mathlib.Core.Path.{_≡_};
 ghost use mathlib.Core.Bool.{false};
@@ -14,8 +15,9 @@ ghost use Rattle.definition.specs.Module.{row};
 ghost use Rattle.words.specs.Layout.{cellAt};
 ghost use Rattle.words.specs.Rows.{cellsAt};
 ghost use Rattle.row_join.specs.places.Arrive.{Arrived};
-ghost use Rattle.row_join.specs.joining.Leave.{Ready, leavesReset};
+ghost use Rattle.row_join.specs.joining.Leave.{JoinReady, leavesReset};
 ghost use Rattle.row_join.specs.joining.Left.{resetAt, Left};
+ghost use Rattle.layout.specs.Layout.{localsAt};
 
 fn reset_cell(reply: Cell, streams: bool, k: usize) -> Cell
     ensures { λ r. ⌜ r ≡ resetAt streams reply k ⌝ }
@@ -48,15 +50,15 @@ fn reset_locals(
 }
 
 pub fn leave_reset(ws: &mut [u32], ch: Chunk, w: Way, fresh: bool, l: Leaving) -> bool
-    requires { ⌜ Ready (now ws) ch w l ⌝ }
+    requires { ⌜ JoinReady (now ws) ch w l ⌝ }
     ensures { λ r. ⌜
         Left fresh ch (w .to) (l .height)
-        (leavesReset l (ch .streams) (cellAt (now (ws .entry)) 0) (cellsAt (now (ws .entry)) (w .from + 96 + 16 * ch .stack) (ch .locals)))
+        (leavesReset l (ch .streams) (cellAt (now (ws .entry)) 0) (cellsAt (now (ws .entry)) (localsAt (w .from) (ch .stack)) (ch .locals)))
         (now (ws .entry)) (now (ws .exit)) r
         ⌝ }
 {
     let made = l.made;
-    let stack = w.to + 96;
+    let stack = w.to + ROW_HEAD;
     let locals = stack + 16 * ch.stack;
     let reply = load(ws, 0);
     let a = put_outputs(ws, stack, l.height, fresh, made);

@@ -22,11 +22,11 @@ pub no-fault : (a : Bool) (n : ℕ) → _≡_ {A = ℕ} (cond a 13 n) 0 → (a �
 no-fault true n h = absurd (omega arith)
 no-fault false n h = (refl, h)
 
-pub always-parts : (v : Visit) (height : ℕ) → always v height ≡ 0
-    → ((ltb height (instr v .taken) || (hopeless v (v .rule .asks) || nothingBelow v (v .rule .acts))) ≡ false)
+pub always-parts : (v : Visit) → always v ≡ 0
+    → ((ltb (v .height) (instr v .taken) || (hopeless (v .rule .asks) (instr v .a) || nothingBelow v)) ≡ false)
     × (dataFault (v .code) (instr v) (v .rule .slots) ≡ 0)
 unfolding always
-always-parts v height h = no-fault (ltb height (instr v .taken) || (hopeless v (v .rule .asks) || nothingBelow v (v .rule .acts))) _ h
+always-parts v h = no-fault (ltb (v .height) (instr v .taken) || (hopeless (v .rule .asks) (instr v .a) || nothingBelow v)) _ h
 
 slots-end : (m k n : ℕ) → _≡_ {A = ℕ} (cond (ltb m k) 13 n) 0 → k ≤ m
 slots-end m k n h = ltb-false m k (no-fault (ltb m k) n h .0)

@@ -1,1 +1,1 @@
-// Theorems about the table of rules: see specs/.
+// No code. Facts about the 66 rules, checked by computation over the whole table: see proofs/.

@@ -6,10 +6,11 @@ use mathlib.Core.Bool.{Bool}
 use mathlib.Core.List.{List, [], _∷_}
 use lib.ListN.{length, drop}
 use Rattle.ring.specs.declared.Queue.{Queue}
-use Rattle.ring.specs.Ring.{Ready, dueOf, poppedOf, queueOf}
+use Rattle.ring.specs.Ring.{QueueReady, dueOf, poppedOf, queueOf}
 use Rattle.ring.proofs.Ring.{entries-pop}
 use Rattle.definition.specs.Res.{Res, ok, bad}
-use Rattle.definition.specs.Machine.{Machine, Where, Ran, due, Seen, halt, takes, next, onSeen, settled, settle, run, onNext, entryDue, refused, refusal}
+use Rattle.answers.specs.Answers.{refusal}
+use Rattle.definition.specs.Machine.{Machine, Where, Ran, due, Seen, halt, takes, next, onSeen, settled, settle, run, onNext, entryDue, refused}
 use Rattle.definition.specs.Module.{Chunk, moduleOf}
 use Rattle.definition.specs.State.{State, Facts, Live, join}
 use Rattle.definition.specs.Leaves.{Known, leaves, absorb, opened, closed, moved}
@@ -36,7 +37,7 @@ module _ (k : Known) (cap : ℕ) where
   abbrev pub takesOf : Machine Chunk Live State → List ℕ → Where Chunk Live Facts State
   takesOf = takes join cap (k .code .chunks) (λ c. c .reachable) start afterChunk opened (λ x. x .known) (absorb (k .code)) moved closed (leaves k)
 
-module _ (s ws : List ℕ) (r : Run) (ready : Ready ws (wordsOf (moduleOf s)) (r .queue)) (some : 0 < r .queue .count) where
+module _ (s ws : List ℕ) (r : Run) (ready : QueueReady ws (wordsOf (moduleOf s)) (r .queue)) (some : 0 < r .queue .count) where
   abbrev at : ℕ
   at = dueOf ws (wordsOf (moduleOf s)) (r .queue)
 
@@ -100,7 +101,7 @@ run-turn k cap limit steps m h =
     ap (λ (n : ℕ). runFrom k cap n steps m) e
 
 -- 7 where an entry is due and no step is left
-pub run-spent : (s ws : List ℕ) (r : Run) (limit : ℕ) → Ready ws (wordsOf (moduleOf s)) (r .queue) → 0 < r .queue .count → limit - r .steps ≡ 0
+pub run-spent : (s ws : List ℕ) (r : Run) (limit : ℕ) → QueueReady ws (wordsOf (moduleOf s)) (r .queue) → 0 < r .queue .count → limit - r .steps ≡ 0
     → runFrom (knownAs s) (roomIn s ws) (limit - r .steps) (r .steps) (machineIn s ws r) ≡ refused (refusal 7 (r .chunk) (dueOf ws (wordsOf (moduleOf s)) (r .queue)) (r .steps))
 unfolding run machineIn entryDue
 run-spent s ws r limit ready some e =

@@ -7,8 +7,9 @@ use mathlib.Core.List.{List}
 use lib.ListN.{length}
 use Rattle.answers.specs.declared.Refusal.{Refusal}
 use Rattle.ring.specs.declared.Queue.{Queue}
-use Rattle.ring.specs.Ring.{Ready, dueOf, poppedOf, queueOf}
-use Rattle.definition.specs.Machine.{due, stop, accepted, refused, refusal, check, begun, onNext}
+use Rattle.ring.specs.Ring.{QueueReady, dueOf, poppedOf, queueOf}
+use Rattle.answers.specs.Answers.{refusal}
+use Rattle.definition.specs.Machine.{due, stop, accepted, refused, check, begun, onNext}
 use Rattle.definition.specs.Module.{moduleOf}
 use Rattle.definition.specs.Leaves.{opened}
 use Rattle.definition.specs.Start.{firstFacts, knownOf}
@@ -27,7 +28,7 @@ use Rattle.step.specs.declared.Step.the-variants.{Go}
 use Rattle.step.specs.declared.Step.the-variants.{Stop as Halted}
 use Rattle.step.specs.Took.{Took}
 use Rattle.step.proofs.Steps.{due-there}
-use Rattle.run.specs.declared.Ran.the-variants.{Done as Finished, Stop as Refused}
+use Rattle.run.specs.declared.RunEnd.the-variants.{Done as Finished, Stop as Refused}
 use Rattle.run.specs.Turns.{nextOf, settledOf, runFrom}
 use Rattle.run.proofs.Turns.{onNextOf, next-stops, next-goes, settled-due, settled-none, run-turn, run-spent}
 use Rattle.run.specs.Running.{SettledAs, Turned, ranIn, EndedBy, RanOn, RanAs}
@@ -120,7 +121,7 @@ module _ (s begin ws : List ℕ) (first : Run) (limit : ℕ) (r : Run) (on : OnR
   unfolding tablesOf
   base-is = ap (λ (x : Tables). x .«queue_at») e
 
-  pub spent-ready : Ready ws (t .«queue_at») (r .queue) × ((r .chunk < 65536) × (dueOf ws (t .«queue_at») (r .queue) < 65536))
+  pub spent-ready : QueueReady ws (t .«queue_at») (r .queue) × ((r .chunk < 65536) × (dueOf ws (t .«queue_at») (r .queue) < 65536))
   spent-ready =
       let b = on .between in (
         rw base-is (b .queued .ready),

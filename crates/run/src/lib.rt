@@ -1,19 +1,19 @@
-// Rounds until nothing changes, then validation, as one row of takings.
+// Rounds until nothing changes, then validation, as one sequence of takings.
 use answers::Refusal;
+use answers::refuse;
 use layout::Tables;
 use ring::peek;
 use rounds::Settled;
 use rounds::open_round;
 use rounds::settle;
 use run_state::Run;
-use run_state::refuse;
 use step::Step;
 use step::take;
 ghost use mathlib.Core.Path.{_≡_};
 ghost use mathlib.Core.Bool.{false};
 ghost use Prim.Native.Nat.{_+_, _<_, _≤_, _^_};
-ghost use Rattle.ring.specs.Ring.{Ready, dueOf};
-ghost use Rattle.definition.specs.Machine.{refusal};
+ghost use Rattle.ring.specs.Ring.{QueueReady, dueOf};
+ghost use Rattle.answers.specs.Answers.{refusal};
 ghost use Rattle.definition.specs.Module.{moduleOf};
 ghost use Rattle.definition.specs.Leaves.{opened};
 ghost use Rattle.definition.specs.Start.{firstFacts};
@@ -23,7 +23,7 @@ ghost use Rattle.run_state.specs.Course.{Prepared, Between};
 ghost use Rattle.run.specs.Running.{SettledAs, Turned, RanOn, RanAs};
 
 // The steps of a run that was accepted, or the refusal.
-pub enum Ran {
+pub enum RunEnd {
     Done(u32),
     Stop(Refusal),
 }
@@ -57,7 +57,7 @@ fn turn(s: &[u8], ws: &mut [u32], t: Tables, r: Run) -> Settled
 
 // 7: an entry is due and the limit is used up.
 fn spent(ws: &[u32], t: Tables, r: Run) -> Refusal
-    requires { ⌜ Ready (now ws) (t .«queue_at») (r .queue) ⌝ }
+    requires { ⌜ QueueReady (now ws) (t .«queue_at») (r .queue) ⌝ }
     requires { ⌜ (r .chunk < 65536) × (dueOf (now ws) (t .«queue_at») (r .queue) < 65536) ⌝ }
     ensures { λ f. ⌜ f ≡ refusal 7 (r .chunk) (dueOf (now (ws .entry)) (t .«queue_at») (r .queue)) (r .steps) ⌝ }
 {
@@ -66,7 +66,7 @@ fn spent(ws: &[u32], t: Tables, r: Run) -> Refusal
 }
 
 // From an entry due to the end.
-fn run_on(s: &[u8], ws: &mut [u32], t: Tables, first: Run, limit: u32) -> Ran
+fn run_on(s: &[u8], ws: &mut [u32], t: Tables, first: Run, limit: u32) -> RunEnd
     requires { ⌜ Between (now s) (now ws) first ⌝ }
     requires { ⌜ 0 < first .queue .count ⌝ }
     requires { ⌜ t ≡ tablesOf (now s) ⌝ }
@@ -77,29 +77,29 @@ fn run_on(s: &[u8], ws: &mut [u32], t: Tables, first: Run, limit: u32) -> Ran
     while r.steps < limit {
         match turn(s, ws, t, r) {
             Settled::Stop(refusal) => {
-                return Ran::Stop(refusal);
+                return RunEnd::Stop(refusal);
             }
             Settled::Done => {
-                return Ran::Done(r.steps + 1);
+                return RunEnd::Done(r.steps + 1);
             }
             Settled::Due(next) => {
                 r = next;
             }
         }
     }
-    Ran::Stop(spent(ws, t, r))
+    RunEnd::Stop(spent(ws, t, r))
 }
 
 // The whole run, from the facts at the start.
-pub fn run(s: &[u8], ws: &mut [u32], t: Tables, limit: u32) -> Ran
+pub fn run(s: &[u8], ws: &mut [u32], t: Tables, limit: u32) -> RunEnd
     requires { ⌜ Prepared (now s) (now ws) ⌝ }
     requires { ⌜ liveIn (now s) (now ws) false ≡ opened (firstFacts (moduleOf (now s))) ⌝ }
     requires { ⌜ t ≡ tablesOf (now s) ⌝ }
     ensures { λ x. ⌜ RanAs (now (s .entry)) (now (ws .entry)) (now (ws .exit)) limit x ⌝ }
 {
     match open_round(s, ws, t, false, 0) {
-        Settled::Stop(refusal) => Ran::Stop(refusal),
-        Settled::Done => Ran::Done(0),
+        Settled::Stop(refusal) => RunEnd::Stop(refusal),
+        Settled::Done => RunEnd::Done(0),
         Settled::Due(r) => run_on(s, ws, t, r, limit),
     }
 }

@@ -1,23 +1,22 @@
 -- An accepted run has validated every state that it leaves: no recorded visit is refused, in whatever mode.
-use Prim.Native.Nat.{ℕ, zero, suc, _+_, _*_, _<_}
+use Prim.Native.Nat.{ℕ, zero, suc, _+_, _<_}
 use native.Mathlib.Omega.{arith}
-use mathlib.Core.Path.{_≡_, sym, ap, ap₂, _∙_}
+use mathlib.Core.Path.{_≡_, sym, ap, _∙_}
 use mathlib.Core.Bool.{true, cond}
 use mathlib.Core.Option.{none, some}
 use mathlib.Core.List.{List, [], _∷_}
 use lib.ListN.{length, getD}
 use Rattle.words.specs.Rows.{cellsAt}
-use Rattle.words.proofs.RowLaws.{cellsAt-length}
 use Rattle.definition.specs.Machine.{accepted}
 use Rattle.definition.specs.Module.{moduleOf}
-use Rattle.definition.specs.Leaves.{Known, always, visitOf, lineAt, noLine}
+use Rattle.definition.specs.Leaves.{Known, always, visitOf}
 use Rattle.definition.specs.Start.{firstFacts, knownOf}
 use Rattle.definition.specs.Call.{runOf}
-use Rattle.form_laws.specs.Good.{noChunk, chunkNo, lineNo}
+use Rattle.form_laws.specs.Good.{noChunk, chunkNo}
 use Rattle.form_laws.proofs.Each.{row-at}
-use Rattle.layout.specs.Layout.{rowAt}
+use Rattle.layout.specs.Layout.{rowAt, localsAt, stackAt}
 use Rattle.row_join.specs.joining.Leave.{stateBy, stateIn}
-use Rattle.visit.specs.declared.Visit.{Visit as Look}
+use Rattle.visit.specs.declared.RowVisit.{RowVisit}
 use Rattle.visit.specs.Held.{factsIn, Looking, stateOf, visitIn}
 use Rattle.run_state.specs.Course.{statesIn, pastIn, finalIn, knownAs, Ended}
 use Rattle.run_state.proofs.Rows.{states-at}
@@ -42,27 +41,22 @@ module _ (s ws : List ℕ) where
       ∙ ap (λ (k : ℕ). cond (chunkNo (moduleOf s) k .reachable) (statesIn s ws k) []) z ∙ rw r
 
   -- the state that a visit has in its row
-  state-is : (v : Look) → Looking s ws v → getD (statesIn s ws (v .chunk)) (v .at) none ≡ some (stateOf s ws v)
+  state-is : (v : RowVisit) → Looking s ws v → getD (statesIn s ws (v .chunk)) (v .at) none ≡ some (stateOf s ws v)
   unfolding stateIn stateBy stateOf
   state-is v x =
       let c = chunkNo (moduleOf s) (v .chunk) in
       let h : getD ws (rowAt (moduleOf s) (v .chunk) (v .at)) 0 ≡ suc (v .height) = omega (arith, x .height) in
       states-at s (v .chunk) ws (v .at) (x .at)
       ∙ ap (stateBy ws (rowAt (moduleOf s) (v .chunk) (v .at)) (c .stack) (c .locals)) h
-      ∙ ap (λ (p : ℕ). some (record { stack = cellsAt ws (p + 96) (v .height); locals = cellsAt ws (p + 96 + 16 * c .stack) (c .locals) })) (sym (x .row))
-
-  height-is : (v : Look) → length (stateOf s ws v .stack) ≡ v .height
-  unfolding stateOf
-  height-is v = cellsAt-length ws (v .row + 96) (v .height)
+      ∙ ap (λ (p : ℕ). some (record { stack = cellsAt ws (stackAt p) (v .height); locals = cellsAt ws (localsAt p (c .stack)) (c .locals) })) (sym (x .row))
 
   -- THEOREM
   pub run-faultless : (cap limit n : ℕ) → Ended s ws → runOf (knownAs s) cap limit (firstFacts (moduleOf s)) ≡ accepted (finalIn s ws) n → Faultless s ws
-  unfolding Faultless visitIn chunkNo lineNo lineAt finalIn knownOf
+  unfolding Faultless visitIn chunkNo finalIn knownOf
   run-faultless cap limit n ended h v x r =
       let c = chunkNo (moduleOf s) (v .chunk) in
       let all = run-sound (knownAs s) cap limit (firstFacts (moduleOf s)) (finalIn s ws) n h in
       let fixes = each-at _ noChunk [] _ _ (v .chunk) all (x .chunk) .0 r in
       let held = rw (past-at (v .chunk) (x .chunk) r) at fixes .held (v .at) (stateOf s ws v) (state-is v x) in
       let fits = visit-accepted (knownAs s) true c (factsIn s ws) (v .at) (stateOf s ws v) (held .out) (held .leaving) .fits in
-      ap₂ (λ (k : Known) (height : ℕ). always (visitOf k c (factsIn s ws) (lineAt (c .code) (v .at) noLine) (stateOf s ws v)) height)
-      (ended .prepared .known) (sym (height-is v)) ∙ fits
+      ap (λ (k : Known). always (visitOf k c (factsIn s ws) (v .at) (stateOf s ws v))) (ended .prepared .known) ∙ fits

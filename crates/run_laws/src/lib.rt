@@ -1,1 +1,1 @@
-// No code: what an accepted run says of the visits that its report is made from.
+// No code. An accepted run has validated every state that its report is made from: see proofs/.

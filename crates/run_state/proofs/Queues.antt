@@ -6,7 +6,7 @@ use mathlib.Core.List.{List, [], _∷_, _++_}
 use lib.ListN.{length, getD, List·getD-append}
 use lib.Seq.{getD-at}
 use Rattle.ring.specs.declared.Queue.{Queue}
-use Rattle.ring.specs.Ring.{Ready, capOf, slot, entryAt, tab, queueOf, pushed, grown}
+use Rattle.ring.specs.Ring.{QueueReady, capOf, slot, entryAt, tab, queueOf, pushed, grown}
 use Rattle.ring.proofs.Ring.{tab-eq, entries-push, ready-push, push-below}
 use Rattle.definition.specs.Module.{moduleOf}
 use Rattle.form_laws.specs.Good.{chunkNo, wordsOf}
@@ -45,7 +45,7 @@ module _ (w v : List ℕ) (base : ℕ) (long : length v ≡ length w) (same : (j
   unfolding queueOf
   queue-kept q = tab-eq _ _ (q .count) 0 (λ k a b. entry-kept (q .head) k)
 
-  pub ready-kept : (q : Queue) → Ready w base q → Ready v base q
+  pub ready-kept : (q : Queue) → QueueReady w base q → QueueReady v base q
   ready-kept q r = record { fits = omega (arith, r .fits); head = omega (arith, r .head); count = omega (arith, r .count) }
 
 pub queued-kept : (s ws v : List ℕ) (n : ℕ) (q : Queue) → length v ≡ length ws → ((j : ℕ) → wordsOf (moduleOf s) ≤ j → getD v j 0 ≡ getD ws j 0)

@@ -12,7 +12,7 @@ use Rattle.definition.specs.Module.{row, moduleOf}
 use Rattle.definition.specs.State.{State}
 use Rattle.form_laws.proofs.Each.{suc-out, row-length, row-at}
 use Rattle.form_laws.specs.Good.{chunkNo, rowCells}
-use Rattle.layout.specs.Layout.{rowAt}
+use Rattle.layout.specs.Layout.{rowAt, localsAt, rowHead, stackAt}
 use Rattle.layout.proofs.Apart.{by-order, row-before, row-begins, row-in, rows-end, area-apart, result-begins, result-next}
 use Rattle.layout.proofs.Kept.{steady-refl, steady-trans}
 use Rattle.row_join.specs.joining.Leave.{stateBy, stateIn}
@@ -47,18 +47,18 @@ by-offset ws v at size h j l m = let e : at + (j - at) ≡ j = omega arith in rw
 pub cells-kept : (ws v : List ℕ) (at size : ℕ) → SameWords ws v at size → (a n : ℕ) → at ≤ a → a + 16 * n ≤ at + size → cellsAt v a n ≡ cellsAt ws a n
 cells-kept ws v at size e a n l m = cellsAt-same v ws a a n (λ j h. e (a + j) (omega arith) (omega arith))
 
-state-by : (ws v : List ℕ) (at stack locals h : ℕ) → h ≤ stack + 1 → SameWords ws v at (96 + 16 * (stack + locals))
+state-by : (ws v : List ℕ) (at stack locals h : ℕ) → h ≤ stack + 1 → SameWords ws v at (rowHead + 16 * (stack + locals))
     → stateBy v at stack locals h ≡ stateBy ws at stack locals h
 unfolding stateBy
 state-by ws v at stack locals zero l e = refl
 state-by ws v at stack locals (suc h) l e =
     λ i. some
     (record {
-      stack = cells-kept ws v at (96 + 16 * (stack + locals)) e (at + 96) h (omega arith) (omega arith) i;
-      locals = cells-kept ws v at (96 + 16 * (stack + locals)) e (at + 96 + 16 * stack) locals (omega arith) (omega arith) i;
+      stack = cells-kept ws v at (rowHead + 16 * (stack + locals)) e (stackAt at) h (omega arith) (omega arith) i;
+      locals = cells-kept ws v at (rowHead + 16 * (stack + locals)) e (localsAt at stack) locals (omega arith) (omega arith) i;
     })
 
-pub state-kept : (ws v : List ℕ) (at stack locals : ℕ) → getD ws at 0 ≤ stack + 1 → SameWords ws v at (96 + 16 * (stack + locals))
+pub state-kept : (ws v : List ℕ) (at stack locals : ℕ) → getD ws at 0 ≤ stack + 1 → SameWords ws v at (rowHead + 16 * (stack + locals))
     → stateIn v at stack locals ≡ stateIn ws at stack locals
 unfolding stateIn
 state-kept ws v at stack locals l e =

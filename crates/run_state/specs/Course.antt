@@ -6,7 +6,7 @@ use mathlib.Core.Option.{Option, none}
 use mathlib.Core.List.{List, []}
 use lib.ListN.{length, getD, drop}
 use Rattle.ring.specs.declared.Queue.{Queue}
-use Rattle.ring.specs.Ring.{Ready, capOf, entryAt, queueOf}
+use Rattle.ring.specs.Ring.{QueueReady, capOf, entryAt, queueOf}
 use Rattle.definition.specs.Machine.{Work, Seen, Machine, Final}
 use Rattle.definition.specs.Module.{Chunk, row, moduleOf}
 use Rattle.definition.specs.State.{State, Facts, Live}
@@ -63,13 +63,13 @@ abbrev pub knownAs : List ℕ → Known
 knownAs s = knownOf (moduleOf s) (firstFacts (moduleOf s))
 
 -- ---- what holds between two takings
--- no row of the chunk n is higher than its places
+-- no recorded stack of the chunk n is higher than D (the first word of a row is its height and one)
 unfoldable pub Low : List ℕ → List ℕ → ℕ → Type 0
 Low s ws n = (i : ℕ) → i < length (chunkNo (moduleOf s) n .code) → getD ws (rowAt (moduleOf s) n i) 0 ≤ chunkNo (moduleOf s) n .stack + 1
 
 -- the queue of the chunk n stands in its words, and its entries are instructions
 pub record Queued (s ws : List ℕ) (n : ℕ) (q : Queue) : Type 0 where
-  pub ready : Ready ws (wordsOf (moduleOf s)) q
+  pub ready : QueueReady ws (wordsOf (moduleOf s)) q
   pub entries : (k : ℕ) → k < q .count → entryAt ws (wordsOf (moduleOf s)) (capOf ws (wordsOf (moduleOf s))) (q .head) k < length (chunkNo (moduleOf s) n .code)
 
 -- what the start has settled, and every taking keeps
@@ -79,7 +79,7 @@ pub record Prepared (s ws : List ℕ) : Type 0 where
   pub admitted : admitted (moduleOf s) (moduleOf s .chunks) ≡ none
   pub known : knownIn s ws ≡ knownAs s
 
--- the reachable chunks before n have states that are no higher than their places
+-- the same of every reachable chunk before n
 unfoldable pub LowBefore : List ℕ → List ℕ → ℕ → Type 0
 LowBefore s ws n = (k : ℕ) → k < n → chunkNo (moduleOf s) k .reachable ≡ true → Low s ws k
 

@@ -1,4 +1,4 @@
-// The four data instructions: the slots they name, and what stands there.
+// The slots that a data instruction names: what a read of them gives, what a write to them needs, which accesses are refused (`crossing`).
 mod crossing;
 
 use cells::Cell;

@@ -10,7 +10,7 @@ use lib.ListN.{length, getD}
 use Rattle.widths.specs.declared.Shape.{Shape}
 use Rattle.cells.specs.declared.Cell.{Cell}
 use Rattle.cells.specs.Cell.{declared}
-use Rattle.words.specs.Layout.{cellAt, putCell, Fit}
+use Rattle.words.specs.Layout.{cellAt, putCell, Storable}
 use Rattle.words.proofs.Laws.{cellAt-put}
 use Rattle.words.specs.Rows.{cellsAt}
 use Rattle.words.proofs.RowLaws.{outside-refl, outside-trans, outside-widen, outside-put, cellAt-outside, cellsAt-outside}
@@ -24,7 +24,7 @@ use Rattle.layout.proofs.Apart.{by-order, inputs-begin, result-begins, result-n
 use Rattle.layout.proofs.Read.{input-is, result-is, params-is}
 use Rattle.layout.proofs.Kept.{Steady, facts-free, steady-free, steady-refl, steady-trans}
 use Rattle.run_state.proofs.Stays.{inputs-end}
-use Rattle.start.specs.Inputs.{ChunkIn, DeclaredIn, InputsIn}
+use Rattle.start.specs.Inputs.{ChunkIn, ChunksDeclared, InputsIn}
 
 -- ---- the inputs of a chunk
 pub inputs-none : (s ws : List ℕ) (c : ℕ) → InputsIn s ws ws c 0
@@ -62,7 +62,7 @@ result-known s ws x c h ch e =
     }
 
 pub inputs-more : (s ws v u : List ℕ) (c k at : ℕ) (ch : ChunkNumbers) (b : Bool) (x : Shape) (d : Cell) → InputsIn s ws v c k → Input s ws c ch k → b ≡ moduleOf s .owns
-    → x ≡ getD (chunkNo (moduleOf s) c .params) k noShape → at ≡ ch .inputs + 16 * k → d ≡ declared x b → (u ≡ putCell v at d) × Fit d → InputsIn s ws u c (k + 1)
+    → x ≡ getD (chunkNo (moduleOf s) c .params) k noShape → at ≡ ch .inputs + 16 * k → d ≡ declared x b → (u ≡ putCell v at d) × Storable d → InputsIn s ws u c (k + 1)
 unfolding inputAt
 inputs-more s ws v u c k at ch b x d i p eb ex e ed (eu, f) =
     let q : at ≡ inputAt (moduleOf s) c k = e ∙ p .at in
@@ -105,7 +105,7 @@ last m c = refl
 
 pub chunk-in : (s ws v u : List ℕ) (c at : ℕ) (ch : ChunkNumbers) (b : Bool) (x : Shape) (d : Cell) → Indexed s ws → c < length (moduleOf s .chunks) → ch ≡ chunkAt s ws c
     → b ≡ moduleOf s .owns → InputsIn s ws v c (length (chunkNo (moduleOf s) c .params)) → x ≡ chunkNo (moduleOf s) c .result
-    → at ≡ ch .inputs + 16 * ch .params → d ≡ declared x b → (u ≡ putCell v at d) × Fit d → ChunkIn s ws u c
+    → at ≡ ch .inputs + 16 * ch .params → d ≡ declared x b → (u ≡ putCell v at d) × Storable d → ChunkIn s ws u c
 chunk-in s ws v u c at ch b x d y h en eb i ex ea ed (eu, f) =
     let m = moduleOf s in
     let r = result-next m c in
@@ -128,7 +128,7 @@ chunk-in s ws v u c at ch b x d y h en eb i ex ea ed (eu, f) =
     })
 
 -- ---- all chunks
-pub declared-none : (s ws : List ℕ) → DeclaredIn s ws ws 0
+pub declared-none : (s ws : List ℕ) → ChunksDeclared s ws ws 0
 declared-none s ws =
     record {
       steady = steady-refl (moduleOf s) ws;
@@ -153,7 +153,7 @@ chunk-steady s ws v c h k =
     (k .outside .length)
     (λ j o. k .outside .word j (rw e at o))
 
-pub declared-more : (s begin ws v : List ℕ) (c : ℕ) → c < length (moduleOf s .chunks) → DeclaredIn s begin ws c → ChunkIn s ws v c → DeclaredIn s begin v (c + 1)
+pub declared-more : (s begin ws v : List ℕ) (c : ℕ) → c < length (moduleOf s .chunks) → ChunksDeclared s begin ws c → ChunkIn s ws v c → ChunksDeclared s begin v (c + 1)
 declared-more s begin ws v c h d k =
     record {
       steady = steady-trans m begin ws v (d .steady) (chunk-steady s ws v c h k);

@@ -12,10 +12,10 @@ use Rattle.cells.specs.declared.Cell.{Cell}
 use Rattle.cells.specs.Cell.{declared, joinCell, unitCell}
 use Rattle.description.specs.Fields.{hasSite, replyOf}
 use Rattle.definition.specs.Module.{Module, siteOf, moduleOf}
-use Rattle.definition.specs.Leaves.{noLine}
+use Rattle.definition.specs.Leaves.{noLine, lineAt}
 use Rattle.definition.specs.Start.{declaredParams, firstFacts, siteReply, replyIn, replies, firstReply, replyCell}
 use Rattle.form_laws.proofs.Each.{map-at}
-use Rattle.form_laws.specs.Good.{Good, noChunk, noShape, chunkNo, lineNo}
+use Rattle.form_laws.specs.Good.{Good, noChunk, noShape, chunkNo}
 use Rattle.layout.specs.declared.Tables.{Tables}
 use Rattle.layout.specs.declared.Chunk.{Chunk as ChunkNumbers}
 use Rattle.layout.specs.Indexed.{Indexed, tablesOf, chunkPlace, chunkAt}
@@ -78,9 +78,9 @@ module _ (s ws : List ℕ) (x : Indexed s ws) (c i : ℕ) (h : c < length (modul
   pub sites-next : (so new start : Cell) (p : ℕ) → p ≡ getD (chunkPlace s c .code) i 0 → new ≡ siteReply (moduleOf s) so (siteOf s p)
       → replyIn (moduleOf s) so (drop i (chunkNo (moduleOf s) c .code)) ≡ replyIn (moduleOf s) start (chunkNo (moduleOf s) c .code)
       → replyIn (moduleOf s) new (drop (i + 1) (chunkNo (moduleOf s) c .code)) ≡ replyIn (moduleOf s) start (chunkNo (moduleOf s) c .code)
-  unfolding replyIn lineNo
+  unfolding replyIn lineAt
   sites-next so new start p e n a =
-      let f : new ≡ siteReply (moduleOf s) so (lineNo (chunkNo (moduleOf s) c) i .site) = n ∙ ap (λ (k : ℕ). siteReply (moduleOf s) so (siteOf s k)) e ∙ ap (siteReply (moduleOf s) so) (sym (site-is s c h i there)) in
+      let f : new ≡ siteReply (moduleOf s) so (lineAt (chunkNo (moduleOf s) c) i .site) = n ∙ ap (λ (k : ℕ). siteReply (moduleOf s) so (siteOf s k)) e ∙ ap (siteReply (moduleOf s) so) (sym (site-is s c h i there)) in
       rw (add-one i, f) (rw (drop-cons (chunkNo (moduleOf s) c .code) i noLine there) at a)
 
 pub sites-end : (s ws : List ℕ) (c i : ℕ) (ch : ChunkNumbers) → ch ≡ chunkAt s ws c → ch .count ≤ i → (so start : Cell)

@@ -17,7 +17,7 @@ use Rattle.extents.specs.declared.Size.the-variants.{Nothing, Bytes}
 use Rattle.flows.specs.Flow.{noFlow, maximumOf}
 use Rattle.cells.specs.declared.Cell.{Cell}
 use Rattle.cells.specs.Cell.{declared}
-use Rattle.words.specs.Layout.{cellAt, putCell, Fit}
+use Rattle.words.specs.Layout.{cellAt, putCell, Storable}
 use Rattle.words.proofs.Laws.{cellAt-put}
 use Rattle.words.specs.Rows.{Outside}
 use Rattle.words.proofs.RowLaws.{outside-trans, outside-widen, outside-put, cellAt-outside, cellsAt-outside}
@@ -28,7 +28,7 @@ use Rattle.definition.specs.Call.{turned, admittedRun, onReply, known, onAdmitt
 use Rattle.form_laws.proofs.Each.{row-length}
 use Rattle.form_laws.specs.Good.{noChunk, chunkNo, wordsOf}
 use Rattle.layout.specs.declared.Tables.{Tables}
-use Rattle.layout.specs.Layout.{areaOf, slotAt, inputAt, resultAt}
+use Rattle.layout.specs.Layout.{areaOf, slotAt, inputAt, resultAt, headWords}
 use Rattle.layout.specs.Indexed.{Indexed, Fresh, tablesOf, suspendsAt}
 use Rattle.layout.proofs.Apart.{areas-behind, slots-behind, slots-first, inputs-begin, result-begins, reply-in}
 use Rattle.layout.proofs.Read.{shared-are}
@@ -43,7 +43,7 @@ use Rattle.start.proofs.suspending.Looks.{marked-indexed}
 use Rattle.start.specs.declared.Started.{Started}
 use Rattle.start.specs.declared.Started.the-variants.{Refused}
 use Rattle.start.specs.Starting.{StartedAs}
-use Rattle.start.specs.Inputs.{DeclaredIn}
+use Rattle.start.specs.Inputs.{ChunksDeclared}
 use Rattle.start.specs.Settled.{ended}
 
 -- ---- lists built element by element
@@ -69,10 +69,10 @@ map-all a (x ∷ xs) = ap (λ (l : List _). a ∷ l) (map-all a xs)
 
 -- ---- the workspace: the declared facts, the reply, and which chunks suspend
 pub record Writes (s ws : List ℕ) (reply : Cell) (v1 v2 v3 : List ℕ) : Type 0 where
-  pub declares : DeclaredIn s ws v1 (moduleOf s .signatures)
+  pub declares : ChunksDeclared s ws v1 (moduleOf s .signatures)
   pub is : reply ≡ replyCell (moduleOf s) (firstFacts (moduleOf s))
   pub puts : v2 ≡ putCell v1 0 reply
-  pub fit : Fit reply
+  pub fit : Storable reply
   pub marked : Marked s v2 v3
   pub suspends : suspendsIn s v3 ≡ suspendLoop (length (moduleOf s .chunks)) (moduleOf s .chunks) (suspendsIn s v2)
 
@@ -80,14 +80,14 @@ module _ (s ws : List ℕ) (x : Indexed s ws) (fresh : Fresh s ws) (room : words
   put : Outside 0 15 v1 v2
   put = rw (w .puts) (outside-put v1 0 reply)
 
-  behind : Outside 0 (64 + 16 * length (moduleOf s .chunks)) v1 v3
+  behind : Outside 0 (headWords + 16 * length (moduleOf s .chunks)) v1 v3
   behind = outside-trans (outside-widen 0 _ put (omega arith) (omega arith)) (outside-widen 0 _ (w .marked .outside) (omega arith) (omega arith))
 
   pub long : length v3 ≡ length ws
   long = behind .length ∙ w .declares .outside .length
 
   -- the slots stay
-  slot-word : (j : ℕ) → 64 + 16 * length (moduleOf s .chunks) ≤ j → j < 16 * areaOf (moduleOf s) 0 → getD v3 j 0 ≡ getD ws j 0
+  slot-word : (j : ℕ) → headWords + 16 * length (moduleOf s .chunks) ≤ j → j < 16 * areaOf (moduleOf s) 0 → getD v3 j 0 ≡ getD ws j 0
   slot-word j l h = behind .word j (inr l) ∙ w .declares .outside .word j (inl h)
 
   slot-cell : (n : ℕ) → n < moduleOf s .slots → cellAt v3 (slotAt (moduleOf s) n) ≡ cellAt ws (slotAt (moduleOf s) n)
@@ -215,16 +215,16 @@ unfolding tablesOf
 few-slots s ws t x e =
     omega (arith, x .good .shared, x .good .inits, shared-are s t e, ap (λ (y : Tables). y .inits) e)
 
-module _ (s ws v1 : List ℕ) (x : Indexed s ws) (d : DeclaredIn s ws v1 (moduleOf s .signatures)) where
+module _ (s ws v1 : List ℕ) (x : Indexed s ws) (d : ChunksDeclared s ws v1 (moduleOf s .signatures)) where
   pub reply-room : 0 + 15 ≤ length v1
   reply-room = omega (arith, reply-in (moduleOf s), x .room, d .outside .length)
 
-  pub put-indexed : (v2 : List ℕ) (reply : Cell) → (v2 ≡ putCell v1 0 reply) × Fit reply → Indexed s v2
+  pub put-indexed : (v2 : List ℕ) (reply : Cell) → (v2 ≡ putCell v1 0 reply) × Storable reply → Indexed s v2
   put-indexed v2 reply (e, f) = rw e (indexed-put s v1 (indexed-steady s ws v1 (d .steady) x) 0 reply (reply-free (moduleOf s)))
 
 pub all-settled : (s ws v1 v2 v3 : List ℕ) (t : Tables) (reply : Cell) (size : Size) (r : Started) → Indexed s ws → Fresh s ws → wordsOf (moduleOf s) < length ws
-    → t ≡ tablesOf s → admitted (moduleOf s) (moduleOf s .chunks) ≡ none → DeclaredIn s ws v1 (moduleOf s .signatures)
-    → reply ≡ replyCell (moduleOf s) (firstFacts (moduleOf s)) → (v2 ≡ putCell v1 0 reply) × Fit reply
+    → t ≡ tablesOf s → admitted (moduleOf s) (moduleOf s .chunks) ≡ none → ChunksDeclared s ws v1 (moduleOf s .signatures)
+    → reply ≡ replyCell (moduleOf s) (firstFacts (moduleOf s)) → (v2 ≡ putCell v1 0 reply) × Storable reply
     → Marked s v2 v3 × (suspendsIn s v3 ≡ suspendLoop (length (moduleOf s .chunks)) (moduleOf s .chunks) (suspendsIn s v2))
     → size ≡ maximumOf (reply .flow) → r ≡ ended (ltb 0 (t .inits) && ltb (t .slots) (t .shared + t .inits)) size → StartedAs s ws v3 r
 all-settled s ws v1 v2 v3 t reply size r x fresh room et a d er (ep, f) (m, es) ez e =

@@ -25,7 +25,7 @@ pub record ChunkIn (s ws v : List ℕ) (c : ℕ) : Type 0 where
   pub result : cellAt v (resultAt (moduleOf s) c) ≡ declared (chunkNo (moduleOf s) c .result) (moduleOf s .owns)
 
 -- those of the chunks before c
-pub record DeclaredIn (s ws v : List ℕ) (c : ℕ) : Type 0 where
+pub record ChunksDeclared (s ws v : List ℕ) (c : ℕ) : Type 0 where
   pub steady : Steady (moduleOf s) ws v
   pub outside : Outside (16 * areaOf (moduleOf s) 0) (wordsOf (moduleOf s)) ws v
   pub inputs : (n : ℕ) → n < c → cellsAt v (inputAt (moduleOf s) n 0) (length (chunkNo (moduleOf s) n .params)) ≡ declaredParams (moduleOf s) (chunkNo (moduleOf s) n)

@@ -1,7 +1,8 @@
 // Refusals 9 and 10: a reachable chunk without code or signature, or one whose parameters don't agree with its type tags.
 use answers::Refusal;
 use answers::nowhere;
-use description::chunk_at as head_at;
+use answers::refuse;
+use description::chunk_head_at;
 use description::tags_at;
 use index::chunk_at;
 use index::param_of;
@@ -9,7 +10,6 @@ use layout::Chunk;
 use layout::Tables;
 use le::u8_at;
 use masks::Mask;
-use run_state::refuse;
 ghost use mathlib.Core.Path.{_≡_};
 ghost use mathlib.Core.Bool.{cond};
 ghost use Prim.Native.Nat.{_<_};
@@ -18,7 +18,7 @@ ghost use Rattle.definition.specs.Module.{moduleOf};
 ghost use Rattle.definition.specs.Start.{tagMask, agree, admission, admitted};
 ghost use Rattle.form_laws.specs.Good.{Good, chunkNo, noShape, wordsOf};
 ghost use Rattle.layout.specs.Indexed.{Indexed, tablesOf};
-ghost use Rattle.start.specs.admitting.Admitting.{Stands, Least, fitsTag, found};
+ghost use Rattle.start.specs.admitting.Admitting.{NumbersOf, Least, fitsTag, found};
 
 // The mask of a type tag; a composite may be anything.
 fn tag_mask(tag: u8) -> Mask
@@ -40,7 +40,7 @@ fn tag_mask(tag: u8) -> Mask
 fn agrees(s: &[u8], c: usize, ch: Chunk, k: usize) -> bool
     requires { ⌜ Good (now s) (wordsOf (moduleOf (now s))) ⌝ }
     requires { ⌜ c < length (moduleOf (now s) .chunks) ⌝ }
-    requires { ⌜ Stands (now s) c ch ⌝ }
+    requires { ⌜ NumbersOf (now s) c ch ⌝ }
     requires { ⌜ (k < length (chunkNo (moduleOf (now s)) c .tags)) × (k < length (chunkNo (moduleOf (now s)) c .params)) ⌝ }
     ensures { λ r. ⌜
         r ≡ fitsTag (getD (chunkNo (moduleOf (now (s .entry))) c .tags) k 0) (getD (chunkNo (moduleOf (now (s .entry))) c .params) k noShape)
@@ -55,7 +55,7 @@ fn agrees(s: &[u8], c: usize, ch: Chunk, k: usize) -> bool
 fn all_agree(s: &[u8], c: usize, ch: Chunk, n: usize) -> bool
     requires { ⌜ Good (now s) (wordsOf (moduleOf (now s))) ⌝ }
     requires { ⌜ c < length (moduleOf (now s) .chunks) ⌝ }
-    requires { ⌜ Stands (now s) c ch ⌝ }
+    requires { ⌜ NumbersOf (now s) c ch ⌝ }
     requires { ⌜ Least (length (chunkNo (moduleOf (now s)) c .tags)) (length (chunkNo (moduleOf (now s)) c .params)) n ⌝ }
     ensures { λ r. ⌜ r ≡ agree (chunkNo (moduleOf (now (s .entry))) c .tags) (chunkNo (moduleOf (now (s .entry))) c .params) ⌝ }
 {
@@ -80,10 +80,10 @@ fn admission(s: &[u8], t: Tables, c: usize, ch: Chunk) -> u8
     requires { ⌜ Good (now s) (wordsOf (moduleOf (now s))) ⌝ }
     requires { ⌜ t ≡ tablesOf (now s) ⌝ }
     requires { ⌜ c < length (moduleOf (now s) .chunks) ⌝ }
-    requires { ⌜ Stands (now s) c ch ⌝ }
+    requires { ⌜ NumbersOf (now s) c ch ⌝ }
     ensures { λ r. ⌜ r ≡ admission (moduleOf (now (s .entry))) (chunkNo (moduleOf (now (s .entry))) c) ⌝ }
 {
-    let h = head_at(s, ch.at);
+    let h = chunk_head_at(s, ch.at);
     if (t.signatures <= c) | ((ch.count == 0) | (ch.params != (h.arity as usize))) {
         return 9;
     }
@@ -98,7 +98,7 @@ fn fault(s: &[u8], t: Tables, c: usize, ch: Chunk) -> u8
     requires { ⌜ Good (now s) (wordsOf (moduleOf (now s))) ⌝ }
     requires { ⌜ t ≡ tablesOf (now s) ⌝ }
     requires { ⌜ c < length (moduleOf (now s) .chunks) ⌝ }
-    requires { ⌜ Stands (now s) c ch ⌝ }
+    requires { ⌜ NumbersOf (now s) c ch ⌝ }
     ensures { λ r. ⌜ r ≡ cond (ch .reachable) (admission (moduleOf (now (s .entry))) (chunkNo (moduleOf (now (s .entry))) c)) 0 ⌝ }
 {
     if ch.reachable {

@@ -1,4 +1,5 @@
-// Before the rounds: refusals 9 to 12, the declared inputs and results, the reply, and which chunks suspend.
+// Before the rounds: refusals 9 and 10 (`admitting`), 11 and 12, the declared inputs and results, the reply, which chunks suspend
+// (`suspending`).
 mod admitting;
 mod suspending;
 
@@ -30,7 +31,7 @@ ghost use Rattle.definition.specs.Start.{admitted, declaredParams, firstFacts, 
 ghost use Rattle.form_laws.specs.Good.{chunkNo, wordsOf};
 ghost use Rattle.layout.specs.Indexed.{Indexed, Fresh, tablesOf, chunkAt};
 ghost use Rattle.start.specs.Starting.{StartedAs};
-ghost use Rattle.start.specs.Inputs.{InputsIn, ChunkIn, DeclaredIn};
+ghost use Rattle.start.specs.Inputs.{InputsIn, ChunkIn, ChunksDeclared};
 ghost use Rattle.start.specs.Settled.{ended};
 
 // The largest body of a reply, or the refusal.
@@ -73,7 +74,7 @@ fn declare_chunk(s: &[u8], ws: &mut [u32], c: usize, ch: Chunk, owns: bool)
 fn declare(s: &[u8], ws: &mut [u32], t: Tables)
     requires { ⌜ Indexed (now s) (now ws) ⌝ }
     requires { ⌜ t ≡ tablesOf (now s) ⌝ }
-    ensures { λ r. ⌜ DeclaredIn (now (s .entry)) (now (ws .entry)) (now (ws .exit)) (moduleOf (now (s .entry)) .signatures) ⌝ }
+    ensures { λ r. ⌜ ChunksDeclared (now (s .entry)) (now (ws .entry)) (now (ws .exit)) (moduleOf (now (s .entry)) .signatures) ⌝ }
 {
     let mut c = 0;
     while c < t.signatures {

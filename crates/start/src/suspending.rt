@@ -2,8 +2,10 @@
 use description::Instr;
 use index::chunk_at;
 use index::instr_of;
+use index::set_suspends;
 use layout::Chunk;
 use layout::Tables;
+use ops::CALL;
 ghost use mathlib.Core.Path.{_≡_};
 ghost use mathlib.Core.Bool.{false, _&&_};
 ghost use Prim.Native.Nat.{_<_};
@@ -14,14 +16,15 @@ ghost use Rattle.definition.specs.Start.{callsOne, suspendMore, suspendLoop};
 ghost use Rattle.form_laws.specs.Good.{chunkNo};
 ghost use Rattle.layout.specs.Indexed.{Indexed, tablesOf, chunkAt};
 ghost use Rattle.start.specs.suspending.Suspending.{suspendsIn, lookAt, Marked, Looked};
+ghost use Rattle.ops.specs.Numbers.{opCall};
 
 // The instruction calls a chunk that suspends.
 fn calls(s: &[u8], ws: &[u32], ins: Instr) -> bool
     requires { ⌜ Indexed (now s) (now ws) ⌝ }
-    requires { ⌜ (ins .op ≡ 30 → ins .a < length (moduleOf (now s) .chunks)) ⌝ }
-    ensures { λ r. ⌜ r ≡ (eqb (ins .op) 30 && getD (suspendsIn (now (s .entry)) (now (ws .entry))) (ins .a) false) ⌝ }
+    requires { ⌜ (ins .op ≡ opCall → ins .a < length (moduleOf (now s) .chunks)) ⌝ }
+    ensures { λ r. ⌜ r ≡ (eqb (ins .op) opCall && getD (suspendsIn (now (s .entry)) (now (ws .entry))) (ins .a) false) ⌝ }
 {
-    if ins.op == 30 {
+    if ins.op == CALL {
         let callee = chunk_at(s, ws, ins.a as usize);
         return callee.suspends;
     }
@@ -60,7 +63,7 @@ fn suspend_one(s: &[u8], ws: &mut [u32], c: usize) -> bool
         return false;
     }
     if calls_suspending(s, ws, c, ch) {
-        ws[64 + 16 * c + 6] = 1;
+        set_suspends(ws, c);
         return true;
     }
     false

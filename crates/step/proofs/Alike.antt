@@ -16,29 +16,29 @@ use Rattle.cells.specs.declared.Cell.{Cell}
 use Rattle.cells.specs.Cell.{made}
 use Rattle.ops.specs.declared.Rule.{Rule}
 use Rattle.ops.specs.declared.Acts.{Acts}
-use Rattle.ops.specs.declared.Acts.the-variants.{Still, SetsLocal, Yields, Calls, Returns, Resets, Stores}
+use Rattle.ops.specs.declared.Acts.the-variants.{Still}
 use Rattle.ops.specs.declared.Makes.the-variants.{Anything}
 use Rattle.ops.specs.declared.Others.the-variants.{Unknowns}
 use Rattle.ops.specs.Ops.{ruleOf}
 use Rattle.definition.specs.declared.Made.{Made}
 use Rattle.definition.specs.State.{State}
 use Rattle.definition.specs.Outputs.{Visit, Setting, noCell, arg, instr, outputs, output, setting, madeFrom, firstOutput, secondOutput, restOutput}
-use Rattle.definition.specs.Ways.{waysOf, narrowing, narrowed, along, onWay, forget, kept, after, afterBy, leavingBy, leaving, outputList, resetFirst}
+use Rattle.definition.specs.Ways.{waysOf, narrowing, narrowed, along, onWay, forget, kept, isReset, reset, after, narrowedOn, leavingBy, leaving, outputList}
 use Rattle.form_laws.proofs.Each.{row-length}
 use Rattle.layout.specs.declared.Chunk.{Chunk}
-use Rattle.row_join.specs.places.Arrive.{nowhere}
+use Rattle.row_join.specs.places.Arrive.{noLocal}
 use Rattle.row_join.specs.declared.joining.Leaving.{Leaving}
 use Rattle.row_join.specs.joining.Leave.{leavesAs, leavesKept, leavesReset}
 use Rattle.row_join.specs.joining.Met.{SetAs}
 use Rattle.row_join.proofs.joining.Joined.{leaves-after, leaves-narrowed, leaves-reset-after}
 use Rattle.ways.proofs.Still.{narrowed-still, narrowed-after, narrowed-locals, narrowed-test}
-use Rattle.visit.specs.declared.Visit.{Visit as Look}
+use Rattle.visit.specs.declared.RowVisit.{RowVisit}
 use Rattle.propagate.specs.Passing.{leavesWith, alongIn, condition, passesAll, waysIn}
 use Rattle.rule_laws.proofs.Tests.{Testing}
-use Rattle.step.specs.Alike.{Alike, isResets}
+use Rattle.step.specs.Alike.{Alike}
 
 -- ---- a test makes nothing that has an origin
-module _ (x : Visit) (e : x .rule ≡ ruleOf (instr x .op)) (to r : ℕ) (h : narrowing (x .rule .exit) (arg x 0 .flow .predicate) (instr x .a) to ≡ some r) where
+module _ (x : Visit) (e : x .rule ≡ ruleOf (instr x .op)) (to r : ℕ) (h : narrowedOn x to ≡ some r) where
   test : Testing (x .rule)
   test = rw e (narrowed-test (instr x .op) _ _ _ _ (rw e at h))
 
@@ -52,18 +52,6 @@ module _ (x : Visit) (e : x .rule ≡ ruleOf (instr x .op)) (to r : ℕ) (h : na
       go (suc zero) m o = rw (m, o)
       go (suc (suc k)) m o = rw (m, o)
 
--- the state after a visit, by whether it resets
-after-by : (x : Visit) (a : Acts)
-    → afterBy x a ≡ cond (isResets a) (record { stack = outputList (outputs x) (instr x .given); locals = resetFirst (x .streams) (x .reply) (x .locals) }) (kept x (outputs x) (setting x a))
-unfolding afterBy isResets
-after-by x Still = refl
-after-by x SetsLocal = refl
-after-by x Yields = refl
-after-by x Calls = refl
-after-by x Returns = refl
-after-by x Resets = refl
-after-by x Stores = refl
-
 outputs-long : (m : Made) (n : ℕ) → length (outputList m n) ≡ n
 unfolding outputList
 outputs-long m n = row-length (output m) 0 n
@@ -75,42 +63,35 @@ kept-long x o =
     ∙ ap₂ _+_ (length-map (x .below) (forget o)) (outputs-long (outputs x) (instr x .given))
 
 -- the height after a visit
-pub after-high : (x : Visit) → length (after x .stack) ≡ cond (isResets (x .rule .acts)) (instr x .given) (length (x .below) + instr x .given)
-unfolding after
-after-high x = ap (λ (y : State). length (y .stack)) (after-by x (x .rule .acts)) ∙ go (isResets (x .rule .acts))
+pub after-high : (x : Visit) → length (after x .stack) ≡ cond (isReset (x .rule .acts)) (instr x .given) (length (x .below) + instr x .given)
+unfolding after reset
+after-high x = go (isReset (x .rule .acts))
   where
-    go : (b : Bool)
-        → length (cond b (record { stack = outputList (outputs x) (instr x .given); locals = resetFirst (x .streams) (x .reply) (x .locals) }) (kept x (outputs x) (setting x (x .rule .acts))) .stack)
-        ≡ cond b (instr x .given) (length (x .below) + instr x .given)
+    go : (b : Bool) → length (cond b (reset x (outputs x)) (kept x (outputs x) (setting x (x .rule .acts))) .stack) ≡ cond b (instr x .given) (length (x .below) + instr x .given)
     go true = outputs-long (outputs x) (instr x .given)
     go false = kept-long x (setting x (x .rule .acts))
 
-module _ (ws : List ℕ) (ch : Chunk) (v : Look) (x : Visit) (l : Leaving) (a : Alike ws ch v x l) where
-  acts : Acts
-  acts = x .rule .acts
-
-  leaves-is : (narrow : ℕ) → leavesWith ws ch v l narrow ≡ cond (isResets (x .rule .acts)) (leavesReset l (x .streams) (x .reply) (x .locals)) (leavesKept l narrow (x .below) (x .locals))
+module _ (ws : List ℕ) (ch : Chunk) (v : RowVisit) (x : Visit) (l : Leaving) (a : Alike ws ch v x l) where
+  leaves-is : (narrow : ℕ) → leavesWith ws ch v l narrow ≡ cond (isReset (x .rule .acts)) (leavesReset l (x .streams) (x .reply) (x .locals)) (leavesKept l narrow (x .below) (x .locals))
   unfolding leavesWith leavesAs
   leaves-is narrow =
       λ i. cond (a .resets i) (leavesReset l (a .streams i) (a .reply i) (a .locals i)) (leavesKept l narrow (a .below i) (a .locals i))
 
   -- without narrowing
-  leaves-plain : leavesWith ws ch v l nowhere ≡ after x
-  unfolding after
-  leaves-plain = leaves-is nowhere ∙ go (isResets (x .rule .acts)) (a .height) ∙ sym (after-by x (x .rule .acts))
+  leaves-plain : leavesWith ws ch v l noLocal ≡ after x
+  unfolding after reset
+  leaves-plain = leaves-is noLocal ∙ go (isReset (x .rule .acts)) (a .height)
     where
       go : (b : Bool) → l .height ≡ cond b (instr x .given) (length (x .below) + instr x .given)
-          → cond b (leavesReset l (x .streams) (x .reply) (x .locals)) (leavesKept l nowhere (x .below) (x .locals))
-          ≡ cond b (record { stack = outputList (outputs x) (instr x .given); locals = resetFirst (x .streams) (x .reply) (x .locals) }) (kept x (outputs x) (setting x (x .rule .acts)))
-      go true h =
-          leaves-reset-after x l h
-          ∙ ap (λ (m : _). record { stack = outputList m (instr x .given); locals = resetFirst (x .streams) (x .reply) (x .locals) }) (a .made)
+          → cond b (leavesReset l (x .streams) (x .reply) (x .locals)) (leavesKept l noLocal (x .below) (x .locals))
+          ≡ cond b (reset x (outputs x)) (kept x (outputs x) (setting x (x .rule .acts)))
+      go true h = leaves-reset-after x l h ∙ ap (reset x) (a .made)
       go false h =
           leaves-after x l h (omega (arith, a .few)) (setting x (x .rule .acts)) (a .sets)
           ∙ ap (λ (m : _). kept x m (setting x (x .rule .acts))) (a .made)
 
   -- an enum among the locals is one of them
-  local-there : (r : ℕ) → has (getD (x .locals) r noCell .mask) ENUM ≡ true → r ≡ nowhere → ⊥
+  local-there : (r : ℕ) → has (getD (x .locals) r noCell .mask) ENUM ≡ true → r ≡ noLocal → ⊥
   unfolding noCell made
   local-there r h e = go (ltb r (length (x .locals))) refl
     where
@@ -123,27 +104,27 @@ module _ (ws : List ℕ) (ch : Chunk) (v : Look) (x : Visit) (l : Leaving) (a : 
           omega arith
 
   -- with a local narrowed
-  module _ (to r : ℕ) (h : narrowing (x .rule .exit) (arg x 0 .flow .predicate) (instr x .a) to ≡ some r) where
+  module _ (to r : ℕ) (h : narrowedOn x to ≡ some r) where
     still : x .rule .acts ≡ Still
     still = ap (λ (y : Rule). y .acts) (a .table) ∙ narrowed-still (instr x .op) _ _ _ _ (rw (a .table) at h)
 
     leaves-narrow : has (getD (x .locals) r noCell .mask) ENUM ≡ true → leavesWith ws ch v l r ≡ narrowed (after x) r
-    unfolding isResets setting SetAs
+    unfolding isReset setting SetAs
     leaves-narrow e =
         leaves-is r
-        ∙ ap (λ (b : Acts). cond (isResets b) (leavesReset l (x .streams) (x .reply) (x .locals)) (leavesKept l r (x .below) (x .locals))) still
+        ∙ ap (λ (b : Acts). cond (isReset b) (leavesReset l (x .streams) (x .reply) (x .locals)) (leavesKept l r (x .below) (x .locals))) still
         ∙ leaves-narrowed x l high (omega (arith, a .few)) r none-set (local-there r e) (λ k. ap (λ (m : _). output m k .flow .origin) (a .made) ∙ test-outputs x (a .table) to r h k)
         ∙ ap (λ (m : _). narrowed (kept x m none) r) (a .made)
         ∙ ap (λ (y : State). narrowed y r) (sym (narrowed-after x to r (a .table) h))
       where
         high : l .height ≡ length (x .below) + instr x .given
-        high = a .height ∙ ap (λ (b : Acts). cond (isResets b) (instr x .given) (length (x .below) + instr x .given)) still
+        high = a .height ∙ ap (λ (b : Acts). cond (isReset b) (instr x .given) (length (x .below) + instr x .given)) still
 
-        none-set : l .set .local ≡ nowhere
+        none-set : l .set .local ≡ noLocal
         none-set = rw still at (a .sets)
 
   -- along one way
-  along-alike : (to : ℕ) (n : Option ℕ) → narrowing (x .rule .exit) (arg x 0 .flow .predicate) (instr x .a) to ≡ n → alongIn ws ch v l n ≡ along (after x) n
+  along-alike : (to : ℕ) (n : Option ℕ) → narrowedOn x to ≡ n → alongIn ws ch v l n ≡ along (after x) n
   unfolding alongIn along
   along-alike to none h = ap some leaves-plain
   along-alike to (some r) h =
@@ -163,11 +144,11 @@ module _ (ws : List ℕ) (ch : Chunk) (v : Look) (x : Visit) (l : Leaving) (a : 
   passes-alike [] = refl
   passes-alike (to ∷ tos) =
       (λ i. onWay to (alongIn ws ch v l (narrowing (a .rule i .exit) (condition-is i .flow .predicate) (a .ins i .a) to)) (passesAll ws ch v l tos))
-      ∙ ap₂ (onWay to) (along-alike to (narrowing (x .rule .exit) (arg x 0 .flow .predicate) (instr x .a) to) refl) (passes-alike tos)
+      ∙ ap₂ (onWay to) (along-alike to (narrowedOn x to) refl) (passes-alike tos)
 
   -- THEOREM: what passes along the ways is what leaves the visit
-  pub ways-alike : waysIn ws ch v l ≡ leaving x (v .at)
+  pub ways-alike : waysIn ws ch v l ≡ leaving x
   unfolding waysIn leaving
   ways-alike =
-      (λ i. passesAll ws ch v l (waysOf (a .rule i .exit) (v .at) (a .ins i .a) (condition-is i .mask)))
-      ∙ passes-alike (waysOf (x .rule .exit) (v .at) (instr x .a) (arg x 0 .mask))
+      (λ i. passesAll ws ch v l (waysOf (a .rule i .exit) (a .at i) (a .ins i .a) (condition-is i .mask)))
+      ∙ passes-alike (waysOf (x .rule .exit) (x .at) (instr x .a) (arg x 0 .mask))

@@ -17,73 +17,55 @@ use Rattle.definition.specs.Outputs.{Visit, instr, outputs, setting}
 use Rattle.definition.specs.Leaves.{visitOf}
 use Rattle.form_laws.specs.Good.{chunkNo, rowCells}
 use Rattle.layout.specs.declared.Chunk.{Chunk}
-use Rattle.layout.specs.Layout.{rowAt}
+use Rattle.layout.specs.Layout.{rowAt, localsAt, placeAt, rowHead}
 use Rattle.layout.specs.Indexed.{chunkAt}
 use Rattle.layout.proofs.Kept.{indexed-steady}
 use Rattle.row_join.specs.declared.joining.Leaving.{Leaving}
 use Rattle.row_join.specs.joining.Met.{SetAs}
-use Rattle.visit.specs.declared.Visit.{Visit as Look}
+use Rattle.definition.specs.Ways.{isReset}
+use Rattle.visit.specs.declared.RowVisit.{RowVisit}
 use Rattle.visit.specs.Held.{knownIn, Looking, argsIn, stateOf, visitIn}
-use Rattle.visit.proofs.Visits.{args-are, below-is, below-long}
+use Rattle.layout.proofs.Read.{stack-is, locals-is}
+use Rattle.visit.proofs.operands.Parts.{ins-is, rule-is}
+use Rattle.visit.proofs.Visits.{at-is, args-are, below-is, below-long}
+use Rattle.outputs.proofs.Parts.{streams-is, reply-is}
 use Rattle.run_state.specs.Course.{FactsOnly}
 use Rattle.propagate.specs.Passing.{localsOf}
-use Rattle.step.specs.Alike.{isResets, Alike}
+use Rattle.step.specs.Alike.{Alike}
 
-module _ (s ws : List ℕ) (v : Look) (look : Looking s ws v) (ch : Chunk) (e : ch ≡ chunkAt s ws (v .chunk)) where
-  pub stack-is : ch .stack ≡ chunkNo (moduleOf s) (v .chunk) .stack
-  unfolding chunkAt
-  stack-is = ap (λ (c : Chunk). c .stack) e
-
-  pub locals-is : ch .locals ≡ chunkNo (moduleOf s) (v .chunk) .locals
-  unfolding chunkAt
-  locals-is = ap (λ (c : Chunk). c .locals) e
-
+module _ (s ws : List ℕ) (v : RowVisit) (look : Looking s ws v) (ch : Chunk) (e : ch ≡ chunkAt s ws (v .chunk)) where
   locals-are : localsOf ws ch v ≡ visitIn s ws v .locals
   unfolding visitIn visitOf stateOf
-  locals-are = λ i. cellsAt ws (v .row + 96 + 16 * stack-is i) (locals-is i)
-
-  pub ins-is : v .ins ≡ instr (visitIn s ws v)
-  unfolding visitIn visitOf
-  ins-is = look .ins
+  locals-are = λ i. cellsAt ws (localsAt (v .row) (stack-is s ws (v .chunk) ch e i)) (locals-is s ws (v .chunk) ch e i)
 
   table-is : visitIn s ws v .rule ≡ ruleOf (instr (visitIn s ws v) .op)
   unfolding visitIn visitOf
   table-is = refl
 
-  pub rule-is : v .rule ≡ visitIn s ws v .rule
-  rule-is = look .rule ∙ ap (λ (i : Instr). ruleOf (i .op)) ins-is ∙ sym table-is
-
-  streams-is : ch .streams ≡ visitIn s ws v .streams
-  unfolding chunkAt visitIn visitOf knownIn
-  streams-is = ap (λ (c : Chunk). c .streams) e
-
-  reply-is : cellAt ws 0 ≡ visitIn s ws v .reply
-  unfolding visitIn visitOf knownIn
-  reply-is = refl
-
   pub alike-of : (l : Leaving) → l .made ≡ outputs (visitIn s ws v) → SetAs (setting (visitIn s ws v) (v .rule .acts)) (l .set)
-      → l .resets ≡ isResets (v .rule .acts) → l .height ≡ cond (isResets (v .rule .acts)) (v .ins .given) (v .start + v .ins .given)
+      → l .resets ≡ isReset (v .rule .acts) → l .height ≡ cond (isReset (v .rule .acts)) (v .ins .given) (v .start + v .ins .given)
       → Alike ws ch v (visitIn s ws v) l
   unfolding visitIn stateOf
   alike-of l made sets resets height =
       record {
-        rule = rule-is;
+        rule = rule-is s ws v look;
         table = table-is;
-        ins = ins-is;
+        at = sym (at-is s ws v);
+        ins = ins-is s ws v look;
         args = sym (args-are s ws v look);
         below = sym (below-is s ws v look);
         locals = locals-are;
-        few = omega (arith, ap length (sym locals-are), cellsAt-length ws (v .row + 96 + 16 * ch .stack) (ch .locals), locals-is, look .indexed .good .eachChunk (v .chunk) (look .chunk) .locals);
-        streams = streams-is;
-        reply = reply-is;
+        few = omega (arith, ap length (sym locals-are), cellsAt-length ws (localsAt (v .row) (ch .stack)) (ch .locals), locals-is s ws (v .chunk) ch e, look .indexed .good .eachChunk (v .chunk) (look .chunk) .locals);
+        streams = streams-is s ws v look ch e;
+        reply = reply-is s ws v look;
         made = made;
-        sets = rw rule-is at sets;
-        resets = resets ∙ ap (λ (r : Rule). isResets (r .acts)) rule-is;
-        height = height ∙ (λ i. cond (isResets (rule-is i .acts)) (ins-is i .given) (sym (below-long s ws v look) i + ins-is i .given));
+        sets = rw (rule-is s ws v look) at sets;
+        resets = resets ∙ ap (λ (r : Rule). isReset (r .acts)) (rule-is s ws v look);
+        height = height ∙ (λ i. cond (isReset (rule-is s ws v look i .acts)) (ins-is s ws v look i .given) (sym (below-long s ws v look) i + ins-is s ws v look i .given));
       }
 
 -- ---- after a write to the facts
-module _ (s ws u : List ℕ) (v : Look) (look : Looking s ws v) (f : FactsOnly s ws u) where
+module _ (s ws u : List ℕ) (v : RowVisit) (look : Looking s ws v) (f : FactsOnly s ws u) where
   row-same : (k : ℕ) → k < 16 * rowCells (chunkNo (moduleOf s) (v .chunk)) → getD u (v .row + k) 0 ≡ getD ws (v .row + k) 0
   row-same k l = rw (look .row) (f .rows (v .chunk) (v .at) k (look .chunk) (look .at) l)
 
@@ -110,7 +92,7 @@ module _ (s ws u : List ℕ) (v : Look) (look : Looking s ws v) (f : FactsOnly s
           ∙ ap (λ (j : ℕ). getD ws j 0) (sym z)
           ∙ look .height
 
-  cells-same : (a n : ℕ) → 96 ≤ a → a + 16 * n ≤ 16 * rowCells (chunkNo (moduleOf s) (v .chunk)) → cellsAt u (v .row + a) n ≡ cellsAt ws (v .row + a) n
+  cells-same : (a n : ℕ) → rowHead ≤ a → a + 16 * n ≤ 16 * rowCells (chunkNo (moduleOf s) (v .chunk)) → cellsAt u (v .row + a) n ≡ cellsAt ws (v .row + a) n
   cells-same a n h l =
       cellsAt-same u ws (v .row + a) (v .row + a) n
       (λ j o. let z : v .row + a + j ≡ v .row + (a + j) = omega arith in rw z (row-same (a + j) (omega arith)))
@@ -121,15 +103,16 @@ module _ (s ws u : List ℕ) (v : Look) (look : Looking s ws v) (f : FactsOnly s
       record {
         rule = a .rule;
         table = a .table;
+        at = a .at;
         ins = a .ins;
         args =
-            let z : v .row + 96 + 16 * v .start ≡ v .row + (96 + 16 * v .start) = omega arith in
-            rw z (cells-same (96 + 16 * v .start) (v .height - v .start) (omega arith) (omega (arith, look .low, look .start))) ∙ sym (ap (λ (j : ℕ). cellsAt ws j (v .height - v .start)) z) ∙ a .args;
-        below = cells-same 96 (v .start) (omega arith) (omega (arith, look .low, look .start)) ∙ a .below;
+            let z : placeAt (v .row) (v .start) ≡ v .row + (rowHead + 16 * v .start) = omega arith in
+            rw z (cells-same (rowHead + 16 * v .start) (v .height - v .start) (omega arith) (omega (arith, look .low, look .start))) ∙ sym (ap (λ (j : ℕ). cellsAt ws j (v .height - v .start)) z) ∙ a .args;
+        below = cells-same rowHead (v .start) (omega arith) (omega (arith, look .low, look .start)) ∙ a .below;
         locals =
-            let z : v .row + 96 + 16 * ch .stack ≡ v .row + (96 + 16 * ch .stack) = omega arith in
+            let z : localsAt (v .row) (ch .stack) ≡ v .row + (rowHead + 16 * ch .stack) = omega arith in
             ap (λ (j : ℕ). cellsAt u j (ch .locals)) z
-            ∙ cells-same (96 + 16 * ch .stack) (ch .locals) (omega arith) (omega (arith, stack-is s ws v look ch e, locals-is s ws v look ch e))
+            ∙ cells-same (rowHead + 16 * ch .stack) (ch .locals) (omega arith) (omega (arith, stack-is s ws (v .chunk) ch e, locals-is s ws (v .chunk) ch e))
             ∙ sym (ap (λ (j : ℕ). cellsAt ws j (ch .locals)) z)
             ∙ a .locals;
         few = a .few;

@@ -6,12 +6,13 @@ use mathlib.Core.Bool.{Bool, true, false, cond}
 use mathlib.Core.Option.{none, some}
 use mathlib.Core.List.{List}
 use lib.ListN.{length, getD}
+use Rattle.answers.specs.Answers.{refusal}
 use Rattle.answers.specs.declared.Refusal.{Refusal}
 use Rattle.ring.specs.declared.Queue.{Queue}
-use Rattle.ring.specs.Ring.{Ready, capOf, entryAt, dueOf, poppedOf, queueOf}
+use Rattle.ring.specs.Ring.{QueueReady, capOf, entryAt, dueOf, poppedOf, queueOf}
 use Rattle.ring.proofs.Ring.{entries-pop, ready-pop}
 use Rattle.definition.specs.Res.{bad}
-use Rattle.definition.specs.Machine.{refusal, visit, visitAt, adds}
+use Rattle.definition.specs.Machine.{visit, visitAt, adds}
 use Rattle.definition.specs.Module.{moduleOf}
 use Rattle.definition.specs.Start.{knownOf}
 use Rattle.definition.specs.State.{Live, Gift, join}
@@ -27,7 +28,7 @@ use Rattle.layout.proofs.Read.{Row, row-known, count-is, stack-is}
 use Rattle.layout.proofs.Kept.{chunk-steady, steady-refl}
 use Rattle.row_join.specs.declared.joining.Leaving.{Leaving}
 use Rattle.row_join.specs.joining.Leave.{stateBy, stateIn}
-use Rattle.visit.specs.declared.Visit.{Visit as Look}
+use Rattle.visit.specs.declared.RowVisit.{RowVisit}
 use Rattle.visit.specs.Held.{liveIn, Looking, visitIn}
 use Rattle.visit.proofs.Visits.{below-long}
 use Rattle.run_state.specs.declared.Run.{Run}
@@ -37,7 +38,8 @@ use Rattle.run_state.proofs.Stays.{facts-low}
 use Rattle.run_state.proofs.Queues.{queue-at, queued-kept}
 use Rattle.form_laws.proofs.Admitted.{chunk-admitted}
 use Rattle.propagate.specs.declared.Went.the-variants.{On, Stop as Turned}
-use Rattle.propagate.specs.Passing.{Leaves, waysIn, Passed}
+use Rattle.propagate.specs.Steps.{PassReady}
+use Rattle.propagate.specs.Passing.{LeavesInRow, waysIn, Passed}
 use Rattle.form_laws.proofs.Tests.{ne-pos}
 use Rattle.rule_laws.proofs.Faults.{low-enough}
 use Rattle.step.specs.declared.Step.{Step}
@@ -47,7 +49,6 @@ use Rattle.step.proofs.Alike.{after-high}
 use Rattle.step.specs.Taking.{addsOf, takingOf, faultOf}
 use Rattle.step.proofs.Taking.{taking-faulty}
 use Rattle.step.proofs.Frames.{looking-facts}
-use Rattle.step.proofs.Frames.{stack-is as row-stack}
 use Rattle.step.proofs.Taken.{stops, goes, still-between, past-stays, long-stays}
 use Rattle.step.proofs.Faults.{faultless}
 use Rattle.step.specs.Took.{Took}
@@ -115,7 +116,7 @@ module _ (s ws : List ℕ) (r : Run) (q : Queue) (i : ℕ) (between : Between s 
   )
 
 -- ---- a visit
-module _ (s ws : List ℕ) (r : Run) (v : Look) (q : Queue) (between : Between s ws r) (look : Looking s ws v) (same : v .chunk ≡ r .chunk) where
+module _ (s ws : List ℕ) (r : Run) (v : RowVisit) (q : Queue) (between : Between s ws r) (look : Looking s ws v) (same : v .chunk ≡ r .chunk) where
   pub signed : v .chunk < moduleOf s .signatures
   unfolding chunkNo
   signed =
@@ -127,23 +128,23 @@ module _ (s ws : List ℕ) (r : Run) (v : Look) (q : Queue) (between : Between s
       let number : n ≡ f .number = ap (λ (x : Refusal). x .number) (sym g) in
       (t ∙ ap bad number, g ∙ ap (λ (k : ℕ). refusal k (r .chunk) (v .at) (r .steps + 1)) number)
 
-  pub took-faulty : (u : List ℕ) (n : ℕ) → n ≡ faultOf (r .validating) (visitIn s ws v) (v .height) → (n ≡ 0 → ⊥)
+  pub took-faulty : (u : List ℕ) (n : ℕ) → n ≡ faultOf (r .validating) (visitIn s ws v) → (n ≡ 0 → ⊥)
       → (f : Refusal) → f ≡ refusal n (r .chunk) (v .at) (r .steps + 1) → Took s ws u r q (v .at) (Stop f)
   took-faulty u n e d = stop-by u n (taking-faulty s ws r v q look same (between .prepared .known) n (sym e) d)
 
   module _ (ch : Chunk) (e : ch ≡ chunkAt s ws (v .chunk)) (l : Leaving) (alike : Alike ws ch v (visitIn s ws v) l)
-      (fine : faultOf (r .validating) (visitIn s ws v) (v .height) ≡ 0) where
+      (fine : faultOf (r .validating) (visitIn s ws v) ≡ 0) where
     high : l .height ≡ length (after (visitIn s ws v) .stack)
     high = alike .height ∙ sym (after-high (visitIn s ws v))
 
     stack : visitIn s ws v .chunk .stack ≡ ch .stack
     unfolding visitIn visitOf
-    stack = sym (row-stack s ws v look ch e)
+    stack = sym (stack-is s ws (v .chunk) ch e)
 
-    pub leaves-low : Leaves ch v l
+    pub leaves-low : LeavesInRow ch v l
     leaves-low =
         record {
-          height = omega (arith, high, stack, low-enough (visitIn s ws v) (faultless (r .validating) (visitIn s ws v) (v .height) fine .1));
+          height = omega (arith, high, stack, low-enough (visitIn s ws v) (faultless (r .validating) (visitIn s ws v) fine .1));
           above = λ p.
               let z : l .height ≡ length (visitIn s ws v .below) + instr (visitIn s ws v) .given =
               alike .height ∙ ap (λ (b : Bool). cond b (instr (visitIn s ws v) .given) (length (visitIn s ws v .below) + instr (visitIn s ws v) .given)) (sym (alike .resets) ∙ p) in
@@ -151,21 +152,16 @@ module _ (s ws : List ℕ) (r : Run) (v : Look) (q : Queue) (between : Between s
         }
 
     module _ (w : List ℕ) (f : FactsOnly s ws w) where
-      pub ready-to-go : (t : Tables) → t ≡ tablesOf s → Queued s ws (v .chunk) q
-          → Looking s w v × ((t ≡ tablesOf s) × ((ch ≡ chunkAt s w (v .chunk)) × (Low s w (v .chunk) × (Queued s w (v .chunk) q × Leaves ch v l))))
-      ready-to-go t p x = (
-        looking-facts s ws w v look f,
-        (
-          p,
-          (
-            e ∙ sym (chunk-steady s ws w (v .chunk) (f .steady) (look .chunk)),
-            (
-              facts-low s ws w f (v .chunk) (look .chunk) (rw same (between .low)),
-              (queued-kept s ws w (v .chunk) q (f .steady .kept .long) (f .queue) x, leaves-low),
-            ),
-          ),
-        ),
-      )
+      pub ready-to-go : (t : Tables) → t ≡ tablesOf s → Queued s ws (v .chunk) q → PassReady s w t ch v l q
+      ready-to-go t p x =
+          record {
+            looking = looking-facts s ws w v look f;
+            tables = p;
+            chunk = e ∙ sym (chunk-steady s ws w (v .chunk) (f .steady) (look .chunk));
+            low = facts-low s ws w f (v .chunk) (look .chunk) (rw same (between .low));
+            queued = queued-kept s ws w (v .chunk) q (f .steady .kept .long) (f .queue) x;
+            leaves = leaves-low;
+          }
 
       pub took-stopped : (u : List ℕ) (n : ℕ) → Passed s w u v q (waysIn w ch v l) (Turned n)
           → (x : Refusal) → x ≡ refusal n (r .chunk) (v .at) (r .steps + 1) → Took s ws u r q (v .at) (Stop x)
@@ -200,7 +196,7 @@ pub took-at : (s ws u : List ℕ) (r : Run) (x : Step) (q p : Queue) (i j : ℕ)
 took-at s ws u r x q p i j a b t = rw b at (rw a at t)
 
 module _ (s ws : List ℕ) (r : Run) (t : Tables) (between : Between s ws r) (some : 0 < r .queue .count) (e : t ≡ tablesOf s) where
-  pub ready-at : Ready ws (t .«queue_at») (r .queue)
+  pub ready-at : QueueReady ws (t .«queue_at») (r .queue)
   ready-at = rw (base-is s t e) (between .queued .ready)
 
   pub due-is : (i : ℕ) → i ≡ dueOf ws (t .«queue_at») (r .queue) → i ≡ dueOf ws (wordsOf (moduleOf s)) (r .queue)

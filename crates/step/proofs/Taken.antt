@@ -16,7 +16,7 @@ use Rattle.form_laws.specs.Good.{chunkNo, wordsOf}
 use Rattle.layout.specs.declared.Chunk.{Chunk}
 use Rattle.layout.specs.Indexed.{chunkAt}
 use Rattle.row_join.specs.declared.joining.Leaving.{Leaving}
-use Rattle.visit.specs.declared.Visit.{Visit as Look}
+use Rattle.visit.specs.declared.RowVisit.{RowVisit}
 use Rattle.visit.specs.Held.{liveIn, Looking, visitIn}
 use Rattle.run_state.specs.declared.Run.{Run}
 use Rattle.run_state.specs.Course.{statesIn, pastIn, workIn, seenIn, roomIn, knownAs, Low, LowBefore, Queued, Between, RowsOnly, FactsOnly}
@@ -49,11 +49,11 @@ module _ (s ws u : List ℕ) (f : FactsOnly s ws u) where
   facts-work n q h low =
       λ i. record { states = facts-states s ws u f n h low i; queue = queue-kept ws u (wordsOf (moduleOf s)) (f .steady .kept .long) (f .queue) q i }
 
-module _ (s ws w u : List ℕ) (r : Run) (v : Look) (q : Queue) (ch : Chunk) (l : Leaving)
+module _ (s ws w u : List ℕ) (r : Run) (v : RowVisit) (q : Queue) (ch : Chunk) (l : Leaving)
     (between : Between s ws r) (look : Looking s ws v) (same : v .chunk ≡ r .chunk) (e : ch ≡ chunkAt s ws (v .chunk))
-    (alike : Alike ws ch v (visitIn s ws v) l) (fine : faultOf (r .validating) (visitIn s ws v) (v .height) ≡ 0) (f : FactsOnly s ws w) where
+    (alike : Alike ws ch v (visitIn s ws v) l) (fine : faultOf (r .validating) (visitIn s ws v) ≡ 0) (f : FactsOnly s ws w) where
   -- what the ways put, over the words before
-  puts-same : puts join (roomIn s w) (workIn s w (v .chunk) q) (waysIn w ch v l) ≡ puts join (roomIn s ws) (workIn s ws (v .chunk) q) (leaving (visitIn s ws v) (v .at))
+  puts-same : puts join (roomIn s w) (workIn s w (v .chunk) q) (waysIn w ch v l) ≡ puts join (roomIn s ws) (workIn s ws (v .chunk) q) (leaving (visitIn s ws v))
   puts-same =
       λ i. puts join (f .steady .kept .long i - wordsOf (moduleOf s)) (facts-work s ws w f (v .chunk) q (look .chunk) low i)
       (ways-alike w ch v (visitIn s ws v) l (alike-facts s ws w v look f ch e (visitIn s ws v) l alike) i)

@@ -6,7 +6,6 @@ use mathlib.Core.Bool.{Bool, cond}
 use mathlib.Core.Option.{none, some}
 use mathlib.Core.List.{List}
 use lib.ListN.{length, getD}
-use Rattle.words.proofs.RowLaws.{cellsAt-length}
 use Rattle.ring.specs.declared.Queue.{Queue}
 use Rattle.ring.specs.Ring.{queueOf}
 use Rattle.definition.specs.Res.{Res, ok, bad, bind}
@@ -16,11 +15,11 @@ use Rattle.definition.specs.State.{State, Live, Gift, join}
 use Rattle.definition.specs.Outputs.{Visit}
 use Rattle.definition.specs.Wants.{unfit}
 use Rattle.definition.specs.Ways.{leaving}
-use Rattle.definition.specs.Leaves.{visitOf, always, gives, unless, heightFault, visited, lineAt, noLine, leaves}
-use Rattle.form_laws.specs.Good.{chunkNo, lineNo, wordsOf}
+use Rattle.definition.specs.Leaves.{visitOf, always, gives, unless, heightFault, visited, leaves}
+use Rattle.form_laws.specs.Good.{chunkNo, wordsOf}
 use Rattle.layout.specs.Layout.{rowAt}
 use Rattle.row_join.specs.joining.Leave.{stateBy, stateIn}
-use Rattle.visit.specs.declared.Visit.{Visit as Look}
+use Rattle.visit.specs.declared.RowVisit.{RowVisit}
 use Rattle.visit.specs.Held.{liveIn, knownIn, Looking, stateOf, visitIn}
 use Rattle.run_state.specs.declared.Run.{Run}
 use Rattle.run_state.specs.Course.{statesIn, workIn, roomIn, knownAs}
@@ -32,15 +31,15 @@ unless-first zero zero c r = refl
 unless-first zero (suc b) c r = refl
 unless-first (suc a) b c r = refl
 
-abbrev pub effectOf : Visit → ℕ → Effect State Gift
-effectOf x i = record { ways = leaving x i; gives = gives x }
+abbrev pub effectOf : Visit → Effect State Gift
+effectOf x = record { ways = leaving x; gives = gives x }
 
-visited-by : (validating : Bool) (x : Visit) (height i : ℕ) → visited validating x height i ≡ unless (faultOf validating x height) (ok (effectOf x i))
+visited-by : (validating : Bool) (x : Visit) → visited validating x ≡ unless (faultOf validating x) (ok (effectOf x))
 unfolding visited faultOf
-visited-by validating x height i = unless-first (always x height) (cond validating (unfit x) 0) (heightFault x) (ok (effectOf x i))
+visited-by validating x = unless-first (always x) (cond validating (unfit x) 0) (heightFault x) (ok (effectOf x))
 
 -- ---- the taking, by its fault and by what it puts
-module _ (s ws : List ℕ) (r : Run) (v : Look) (q : Queue) (look : Looking s ws v) (same : v .chunk ≡ r .chunk) (known : knownIn s ws ≡ knownAs s) where
+module _ (s ws : List ℕ) (r : Run) (v : RowVisit) (q : Queue) (look : Looking s ws v) (same : v .chunk ≡ r .chunk) (known : knownIn s ws ≡ knownAs s) where
   abbrev pub visitHere : Visit
   visitHere = visitIn s ws v
 
@@ -56,22 +55,18 @@ module _ (s ws : List ℕ) (r : Run) (v : Look) (q : Queue) (look : Looking s ws
       ∙ ap (stateBy ws (rowAt (moduleOf s) (v .chunk) (v .at)) (chunkNo (moduleOf s) (v .chunk) .stack) (chunkNo (moduleOf s) (v .chunk) .locals)) e
       ∙ ap (λ (at : ℕ). stateBy ws at (chunkNo (moduleOf s) (v .chunk) .stack) (chunkNo (moduleOf s) (v .chunk) .locals) (suc (v .height))) (sym (look .row)))
 
-  high : length (stateOf s ws v .stack) ≡ v .height
-  unfolding stateOf
-  high = cellsAt-length ws (v .row + 96) (v .height)
-
   leaves-here : leaves (knownAs s) (r .validating) (chunkNo (moduleOf s) (r .chunk)) (factsHere .known) (v .at) (stateOf s ws v)
-      ≡ unless (faultOf (r .validating) visitHere (v .height)) (ok (effectOf visitHere (v .at)))
-  unfolding leaves visitIn liveIn lineAt lineNo visitOf
+      ≡ unless (faultOf (r .validating) visitHere) (ok (effectOf visitHere))
+  unfolding leaves visitIn liveIn
   leaves-here =
-      (λ i. visited (r .validating) (visitOf (sym known i) (chunkNo (moduleOf s) (sym same i)) (factsHere .known) (lineAt (chunkNo (moduleOf s) (sym same i) .code) (v .at) noLine) (stateOf s ws v)) (high i) (v .at))
-      ∙ visited-by (r .validating) visitHere (v .height) (v .at)
+      (λ i. visited (r .validating) (visitOf (sym known i) (chunkNo (moduleOf s) (sym same i)) (factsHere .known) (v .at) (stateOf s ws v)))
+      ∙ visited-by (r .validating) visitHere
 
   abbrev onPut : Res (Work State) → Res (Seen Live State)
   onPut w = bind w (λ w. ok (record { facts = addsOf (knownAs s) (roomIn s ws) (r .validating) factsHere (gives visitHere); work = w }))
 
   taking-is : takingOf s ws r q (v .at)
-      ≡ bind (unless (faultOf (r .validating) visitHere (v .height)) (ok (effectOf visitHere (v .at)))) (λ e.
+      ≡ bind (unless (faultOf (r .validating) visitHere) (ok (effectOf visitHere))) (λ e.
       bind (puts join (roomIn s ws) (workIn s ws (v .chunk) q) (e .ways)) (λ w.
       ok (record { facts = addsOf (knownAs s) (roomIn s ws) (r .validating) factsHere (e .gives); work = w })))
   unfolding takingOf visit visitAt workIn
@@ -82,19 +77,19 @@ module _ (s ws : List ℕ) (r : Run) (v : Look) (q : Queue) (look : Looking s ws
       ok (record { facts = addsOf (knownAs s) (roomIn s ws) (r .validating) factsHere (e .gives); work = w }))))
 
   -- by the number that refuses it, and by what the ways put
-  taking-by : (n : ℕ) → faultOf (r .validating) visitHere (v .height) ≡ n
-      → takingOf s ws r q (v .at) ≡ unless n (onPut (puts join (roomIn s ws) (workIn s ws (v .chunk) q) (leaving visitHere (v .at))))
+  taking-by : (n : ℕ) → faultOf (r .validating) visitHere ≡ n
+      → takingOf s ws r q (v .at) ≡ unless n (onPut (puts join (roomIn s ws) (workIn s ws (v .chunk) q) (leaving visitHere)))
   taking-by zero e = taking-is ∙ rw e
   taking-by (suc n) e = taking-is ∙ rw e
 
-  pub taking-faulty : (n : ℕ) → faultOf (r .validating) visitHere (v .height) ≡ n → (n ≡ 0 → ⊥) → takingOf s ws r q (v .at) ≡ bad n
+  pub taking-faulty : (n : ℕ) → faultOf (r .validating) visitHere ≡ n → (n ≡ 0 → ⊥) → takingOf s ws r q (v .at) ≡ bad n
   taking-faulty zero e d = absurd (d refl)
   taking-faulty (suc n) e d = taking-by (suc n) e
 
-  module _ (fine : faultOf (r .validating) visitHere (v .height) ≡ 0) where
-    pub taking-stops : (n : ℕ) → puts join (roomIn s ws) (workIn s ws (v .chunk) q) (leaving visitHere (v .at)) ≡ bad n → takingOf s ws r q (v .at) ≡ bad n
+  module _ (fine : faultOf (r .validating) visitHere ≡ 0) where
+    pub taking-stops : (n : ℕ) → puts join (roomIn s ws) (workIn s ws (v .chunk) q) (leaving visitHere) ≡ bad n → takingOf s ws r q (v .at) ≡ bad n
     taking-stops n e = taking-by 0 fine ∙ ap onPut e
 
-    pub taking-goes : (w : Work State) → puts join (roomIn s ws) (workIn s ws (v .chunk) q) (leaving visitHere (v .at)) ≡ ok w
+    pub taking-goes : (w : Work State) → puts join (roomIn s ws) (workIn s ws (v .chunk) q) (leaving visitHere) ≡ ok w
         → takingOf s ws r q (v .at) ≡ ok (record { facts = addsOf (knownAs s) (roomIn s ws) (r .validating) (liveIn s ws (r .changed)) (gives (visitIn s ws v)); work = w })
     taking-goes w e = taking-by 0 fine ∙ ap onPut e

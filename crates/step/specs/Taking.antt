@@ -1,5 +1,6 @@
 -- One taking of an entry, as the machine has it.
-use Prim.Native.Nat.{ℕ, zero, suc}
+use Prim.Native.Nat.{ℕ, zero, suc, _+_, _<_, _^_}
+use mathlib.Core.Path.{_≡_}
 use mathlib.Core.Bool.{Bool, cond}
 use mathlib.Core.List.{List}
 use Rattle.ring.specs.declared.Queue.{Queue}
@@ -13,9 +14,12 @@ use Rattle.definition.specs.Wants.{unfit}
 use Rattle.definition.specs.Leaves.{Known, always, heightFault, leaves, absorb, opened, closed, moved}
 use Rattle.definition.specs.Start.{start, afterChunk}
 use Rattle.form_laws.specs.Good.{chunkNo, wordsOf}
-use Rattle.visit.specs.Held.{liveIn}
+use Rattle.layout.specs.declared.Tables.{Tables}
+use Rattle.layout.specs.declared.Chunk.{Chunk}
+use Rattle.visit.specs.declared.RowVisit.{RowVisit}
+use Rattle.visit.specs.Held.{liveIn, Visiting}
 use Rattle.run_state.specs.declared.Run.{Run}
-use Rattle.run_state.specs.Course.{statesIn, roomIn, knownAs}
+use Rattle.run_state.specs.Course.{statesIn, roomIn, knownAs, Queued, Between}
 
 -- only the rounds add to the facts
 abbrev pub addsOf : Known → ℕ → Bool → Live → Gift → Live
@@ -28,10 +32,18 @@ takingOf s ws r q i =
     (leaves (knownAs s) (r .validating) (chunkNo (moduleOf s) (r .chunk)))
     (liveIn s ws (r .changed)) (statesIn s ws (r .chunk)) (queueOf ws (wordsOf (moduleOf s)) q) i
 
+-- the visit of the entry that was due; q is the queue without it
+pub record VisitDue (s ws : List ℕ) (t : Tables) (ch : Chunk) (v : RowVisit) (r : Run) (q : Queue) : Type 0 where
+  pub between : Between s ws r
+  pub visiting : Visiting s ws t ch v
+  pub same : v .chunk ≡ r .chunk
+  pub queued : Queued s ws (v .chunk) q
+  pub steps : r .steps + 1 < 2 ^ 32
+
 -- ---- what refuses a visit: the first that is not 0
 abbrev pub first : ℕ → ℕ → ℕ
 first zero n = n
 first (suc m) n = suc m
 
-unfoldable pub faultOf : Bool → Visit → ℕ → ℕ
-faultOf validating x height = first (always x height) (first (cond validating (unfit x) 0) (heightFault x))
+unfoldable pub faultOf : Bool → Visit → ℕ
+faultOf validating x = first (always x) (first (cond validating (unfit x) 0) (heightFault x))

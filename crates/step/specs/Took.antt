@@ -3,9 +3,9 @@ use Prim.Native.Nat.{ℕ, _+_}
 use mathlib.Core.Path.{_≡_}
 use mathlib.Core.List.{List}
 use lib.ListN.{length}
+use Rattle.answers.specs.Answers.{refusal}
 use Rattle.ring.specs.declared.Queue.{Queue}
 use Rattle.definition.specs.Res.{ok, bad}
-use Rattle.definition.specs.Machine.{refusal}
 use Rattle.run_state.specs.declared.Run.{Run}
 use Rattle.run_state.specs.Course.{pastIn, seenIn, Between}
 use Rattle.step.specs.declared.Step.{Step}

@@ -1,5 +1,6 @@
 // One taking of an entry from the queue: the visit of its instruction.
 use answers::Refusal;
+use answers::refuse;
 use checks::always_fault;
 use checks::proven;
 use fact_join::give;
@@ -18,22 +19,22 @@ use ring::peek;
 use ring::popped;
 use row_join::Leaving;
 use run_state::Run;
-use run_state::refuse;
-use visit::Visit;
+use visit::RowVisit;
 use visit::visit_at;
 ghost use mathlib.Core.Path.{_≡_};
 ghost use mathlib.Core.Bool.{cond};
 ghost use Prim.Native.Nat.{_+_, _<_, _≤_, _^_};
 ghost use Rattle.ring.specs.Ring.{dueOf, poppedOf};
 ghost use Rattle.definition.specs.Module.{moduleOf};
+ghost use Rattle.definition.specs.Ways.{isReset};
 ghost use Rattle.definition.specs.Leaves.{always, gives};
 ghost use Rattle.definition.specs.Wants.{unfit};
 ghost use Rattle.form_laws.specs.Good.{wordsOf};
-ghost use Rattle.layout.specs.Indexed.{tablesOf, chunkAt};
-ghost use Rattle.visit.specs.Held.{liveIn, Looking, visitIn};
-ghost use Rattle.run_state.specs.Course.{roomIn, knownAs, Queued, Between, FactsOnly};
-ghost use Rattle.step.specs.Alike.{isResets, Alike};
-ghost use Rattle.step.specs.Taking.{addsOf, faultOf};
+ghost use Rattle.layout.specs.Indexed.{tablesOf};
+ghost use Rattle.visit.specs.Held.{liveIn, Visiting, visitIn};
+ghost use Rattle.run_state.specs.Course.{roomIn, knownAs, Between, FactsOnly};
+ghost use Rattle.step.specs.Alike.{Alike};
+ghost use Rattle.step.specs.Taking.{addsOf, VisitDue, faultOf};
 ghost use Rattle.step.specs.Took.{Took};
 
 pub enum Step {
@@ -41,26 +42,21 @@ pub enum Step {
     Stop(Refusal),
 }
 
-fn resets(v: Visit) -> bool
-    ensures { λ r. ⌜ r ≡ isResets (v .rule .acts) ⌝ }
+fn resets(v: RowVisit) -> bool
+    ensures { λ r. ⌜ r ≡ isReset (v .rule .acts) ⌝ }
 {
     let rule = v.rule;
     let acts = rule.acts;
     match acts {
-        Acts::Still => false,
-        Acts::SetsLocal => false,
-        Acts::Yields => false,
-        Acts::Calls => false,
-        Acts::Returns => false,
         Acts::Resets => true,
-        Acts::Stores => false,
+        _ => false,
     }
 }
 
 // The height after the visit; `Reset` drops what was there.
-fn height_after(v: Visit) -> usize
+fn height_after(v: RowVisit) -> usize
     requires { ⌜ v .start < 2 ^ 32 ⌝ }
-    ensures { λ r. ⌜ r ≡ cond (isResets (v .rule .acts)) (v .ins .given) (v .start + v .ins .given) ⌝ }
+    ensures { λ r. ⌜ r ≡ cond (isReset (v .rule .acts)) (v .ins .given) (v .start + v .ins .given) ⌝ }
 {
     let ins = v.ins;
     let given = ins.given as usize;
@@ -68,11 +64,9 @@ fn height_after(v: Visit) -> usize
 }
 
 // What validation refuses the visit for, or 0.
-fn unproven(s: &[u8], ws: &[u32], t: Tables, ch: Chunk, v: Visit, validating: bool) -> u8
-    requires { ⌜ Looking (now s) (now ws) v ⌝ }
-    requires { ⌜ t ≡ tablesOf (now s) ⌝ }
-    requires { ⌜ ch ≡ chunkAt (now s) (now ws) (v .chunk) ⌝ }
-    requires { ⌜ always (visitIn (now s) (now ws) v) (v .height) ≡ 0 ⌝ }
+fn unproven(s: &[u8], ws: &[u32], t: Tables, ch: Chunk, v: RowVisit, validating: bool) -> u8
+    requires { ⌜ Visiting (now s) (now ws) t ch v ⌝ }
+    requires { ⌜ always (visitIn (now s) (now ws) v) ≡ 0 ⌝ }
     ensures { λ r. ⌜ r ≡ cond validating (unfit (visitIn (now (s .entry)) (now (ws .entry)) v)) 0 ⌝ }
 {
     if validating {
@@ -82,11 +76,9 @@ fn unproven(s: &[u8], ws: &[u32], t: Tables, ch: Chunk, v: Visit, validating: bo
 }
 
 // What refuses the visit: 13, 14, 15 or 18, or 0.
-fn fault(s: &[u8], ws: &[u32], t: Tables, ch: Chunk, v: Visit, validating: bool) -> u8
-    requires { ⌜ Looking (now s) (now ws) v ⌝ }
-    requires { ⌜ t ≡ tablesOf (now s) ⌝ }
-    requires { ⌜ ch ≡ chunkAt (now s) (now ws) (v .chunk) ⌝ }
-    ensures { λ r. ⌜ r ≡ faultOf validating (visitIn (now (s .entry)) (now (ws .entry)) v) (v .height) ⌝ }
+fn fault(s: &[u8], ws: &[u32], t: Tables, ch: Chunk, v: RowVisit, validating: bool) -> u8
+    requires { ⌜ Visiting (now s) (now ws) t ch v ⌝ }
+    ensures { λ r. ⌜ r ≡ faultOf validating (visitIn (now (s .entry)) (now (ws .entry)) v) ⌝ }
 {
     let n = always_fault(s, ws, t, v);
     if n != 0 {
@@ -100,11 +92,9 @@ fn fault(s: &[u8], ws: &[u32], t: Tables, ch: Chunk, v: Visit, validating: bool)
 }
 
 // What leaves the visit, whatever the way.
-fn leaving(s: &[u8], ws: &[u32], t: Tables, ch: Chunk, v: Visit) -> Leaving
-    requires { ⌜ Looking (now s) (now ws) v ⌝ }
-    requires { ⌜ t ≡ tablesOf (now s) ⌝ }
-    requires { ⌜ ch ≡ chunkAt (now s) (now ws) (v .chunk) ⌝ }
-    requires { ⌜ always (visitIn (now s) (now ws) v) (v .height) ≡ 0 ⌝ }
+fn leaving(s: &[u8], ws: &[u32], t: Tables, ch: Chunk, v: RowVisit) -> Leaving
+    requires { ⌜ Visiting (now s) (now ws) t ch v ⌝ }
+    requires { ⌜ always (visitIn (now s) (now ws) v) ≡ 0 ⌝ }
     ensures { λ r. ⌜ Alike (now (ws .entry)) ch v (visitIn (now (s .entry)) (now (ws .entry)) v) r ⌝ }
 {
     let made = made_at(s, ws, t, ch, v);
@@ -118,12 +108,10 @@ fn leaving(s: &[u8], ws: &[u32], t: Tables, ch: Chunk, v: Visit) -> Leaving
 }
 
 // Only the rounds add to the facts; whether the facts of this round changed so far.
-fn give_in_rounds(s: &[u8], ws: &mut [u32], t: Tables, ch: Chunk, v: Visit, r: Run) -> bool
-    requires { ⌜ Looking (now s) (now ws) v ⌝ }
-    requires { ⌜ t ≡ tablesOf (now s) ⌝ }
-    requires { ⌜ ch ≡ chunkAt (now s) (now ws) (v .chunk) ⌝ }
+fn give_in_rounds(s: &[u8], ws: &mut [u32], t: Tables, ch: Chunk, v: RowVisit, r: Run) -> bool
+    requires { ⌜ Visiting (now s) (now ws) t ch v ⌝ }
     requires { ⌜ v .chunk < moduleOf (now s) .signatures ⌝ }
-    requires { ⌜ always (visitIn (now s) (now ws) v) (v .height) ≡ 0 ⌝ }
+    requires { ⌜ always (visitIn (now s) (now ws) v) ≡ 0 ⌝ }
     ensures { λ b. ⌜
         FactsOnly (now (s .entry)) (now (ws .entry)) (now (ws .exit))
         × (liveIn (now (s .entry)) (now (ws .exit)) b
@@ -138,14 +126,8 @@ fn give_in_rounds(s: &[u8], ws: &mut [u32], t: Tables, ch: Chunk, v: Visit, r: R
 }
 
 // The visit of the entry that was due; q is the queue without it.
-fn visited(s: &[u8], ws: &mut [u32], t: Tables, ch: Chunk, v: Visit, r: Run, q: Queue) -> Step
-    requires { ⌜ Between (now s) (now ws) r ⌝ }
-    requires { ⌜ Looking (now s) (now ws) v ⌝ }
-    requires { ⌜ v .chunk ≡ r .chunk ⌝ }
-    requires { ⌜ t ≡ tablesOf (now s) ⌝ }
-    requires { ⌜ ch ≡ chunkAt (now s) (now ws) (v .chunk) ⌝ }
-    requires { ⌜ Queued (now s) (now ws) (v .chunk) q ⌝ }
-    requires { ⌜ r .steps + 1 < 2 ^ 32 ⌝ }
+fn visited(s: &[u8], ws: &mut [u32], t: Tables, ch: Chunk, v: RowVisit, r: Run, q: Queue) -> Step
+    requires { ⌜ VisitDue (now s) (now ws) t ch v r q ⌝ }
     ensures { λ x. ⌜ Took (now (s .entry)) (now (ws .entry)) (now (ws .exit)) r q (v .at) x ⌝ }
 {
     let steps = r.steps + 1;

@@ -1,5 +1,5 @@
 -- What a workspace holds between two takings, as the definition's values: facts, states, and the visit of an instruction.
-use Prim.Native.Nat.{ℕ, _+_, _*_, _-_, _%_, _<_, _≤_}
+use Prim.Native.Nat.{ℕ, _+_, _-_, _%_, _<_, _≤_}
 use mathlib.Core.Path.{_≡_}
 use mathlib.Core.Bool.{Bool}
 use mathlib.Core.List.{List}
@@ -10,14 +10,17 @@ use Rattle.cells.specs.declared.Cell.{Cell}
 use Rattle.ops.specs.Ops.{ruleOf}
 use Rattle.words.specs.Layout.{cellAt}
 use Rattle.words.specs.Rows.{cellsAt}
+use Rattle.definition.specs.Bounds.{mostStack}
 use Rattle.definition.specs.Module.{row, moduleOf}
 use Rattle.definition.specs.State.{State, Facts, Live}
 use Rattle.definition.specs.Outputs.{Visit}
-use Rattle.definition.specs.Leaves.{Known, visitOf}
-use Rattle.form_laws.specs.Good.{chunkNo, lineNo}
-use Rattle.layout.specs.Layout.{slotAt, inputAt, resultAt, rowAt}
-use Rattle.layout.specs.Indexed.{Indexed, chunkPlace, suspendsAt}
-use Rattle.visit.specs.declared.Visit.{Visit as Look}
+use Rattle.definition.specs.Leaves.{Known, visitOf, lineAt}
+use Rattle.form_laws.specs.Good.{chunkNo}
+use Rattle.layout.specs.Layout.{slotAt, inputAt, resultAt, rowAt, localsAt, placeAt, stackAt}
+use Rattle.layout.specs.declared.Tables.{Tables}
+use Rattle.layout.specs.declared.Chunk.{Chunk as ChunkNumbers}
+use Rattle.layout.specs.Indexed.{Indexed, tablesOf, chunkPlace, chunkAt, suspendsAt}
+use Rattle.visit.specs.declared.RowVisit.{RowVisit}
 
 -- the facts: a chunk's inputs and result, and of each slot the private mask and flow
 unfoldable pub factsIn : List ℕ → List ℕ → Facts
@@ -41,36 +44,42 @@ knownIn s ws =
     record { code = moduleOf s; suspends = row (suspendsAt ws) 0 (length (moduleOf s .chunks)); reply = cellAt ws 0 }
 
 -- a visit as the code has it: its chunk and instruction, where its row stands, the heights
-pub record Looking (s ws : List ℕ) (v : Look) : Type 0 where
+pub record Looking (s ws : List ℕ) (v : RowVisit) : Type 0 where
   pub indexed : Indexed s ws
   pub chunk : v .chunk < length (moduleOf s .chunks)
   pub at : v .at < length (chunkNo (moduleOf s) (v .chunk) .code)
   pub row : v .row ≡ rowAt (moduleOf s) (v .chunk) (v .at)
   pub height : getD ws (rowAt (moduleOf s) (v .chunk) (v .at)) 0 ≡ v .height + 1
   pub low : v .height ≤ chunkNo (moduleOf s) (v .chunk) .stack
-  pub ins : v .ins ≡ lineNo (chunkNo (moduleOf s) (v .chunk)) (v .at) .instr
+  pub ins : v .ins ≡ lineAt (chunkNo (moduleOf s) (v .chunk)) (v .at) .instr
   pub rule : v .rule ≡ ruleOf (v .ins .op)
   pub field : v .field ≡ getD (chunkPlace s (v .chunk) .code) (v .at) 0
   pub start : v .start ≡ v .height - v .ins .taken
 
--- the operands, read off the row; what the functions on a row alone ask
-unfoldable pub argsIn : List ℕ → Look → List Cell
-argsIn ws v = cellsAt ws (v .row + 96 + 16 * v .start) (v .height - v .start)
+-- what the functions of a visit are given: the tables, the numbers of its chunk, and the visit
+pub record Visiting (s ws : List ℕ) (t : Tables) (ch : ChunkNumbers) (v : RowVisit) : Type 0 where
+  pub looking : Looking s ws v
+  pub tables : t ≡ tablesOf s
+  pub chunk : ch ≡ chunkAt s ws (v .chunk)
 
-pub record Standing (ws : List ℕ) (v : Look) : Type 0 where
-  pub room : v .row + 96 + 16 * v .height ≤ length ws
+-- the operands, read off the row; what the functions on a row alone ask
+unfoldable pub argsIn : List ℕ → RowVisit → List Cell
+argsIn ws v = cellsAt ws (placeAt (v .row) (v .start)) (v .height - v .start)
+
+pub record Standing (ws : List ℕ) (v : RowVisit) : Type 0 where
+  pub room : placeAt (v .row) (v .height) ≤ length ws
   pub start : v .start ≤ v .height
-  pub low : v .height ≤ 64
+  pub low : v .height ≤ mostStack
 
 -- the state of the row
-unfoldable pub stateOf : List ℕ → List ℕ → Look → State
+unfoldable pub stateOf : List ℕ → List ℕ → RowVisit → State
 stateOf s ws v =
     record {
-      stack = cellsAt ws (v .row + 96) (v .height);
-      locals = cellsAt ws (v .row + 96 + 16 * chunkNo (moduleOf s) (v .chunk) .stack) (chunkNo (moduleOf s) (v .chunk) .locals);
+      stack = cellsAt ws (stackAt (v .row)) (v .height);
+      locals = cellsAt ws (localsAt (v .row) (chunkNo (moduleOf s) (v .chunk) .stack)) (chunkNo (moduleOf s) (v .chunk) .locals);
     }
 
 -- the definition's visit
-unfoldable pub visitIn : List ℕ → List ℕ → Look → Visit
+unfoldable pub visitIn : List ℕ → List ℕ → RowVisit → Visit
 visitIn s ws v =
-    visitOf (knownIn s ws) (chunkNo (moduleOf s) (v .chunk)) (factsIn s ws) (lineNo (chunkNo (moduleOf s) (v .chunk)) (v .at)) (stateOf s ws v)
+    visitOf (knownIn s ws) (chunkNo (moduleOf s) (v .chunk)) (factsIn s ws) (v .at) (stateOf s ws v)

@@ -1,4 +1,5 @@
-// One visit of an instruction: its chunk and place, where its row stands in the workspace, the heights; its operands; the slots it names.
+// One visit of an instruction, as the code has it (`RowVisit`): chunk and place, rule, where its row stands in the workspace, heights; its
+// operands, one (here) and all (`operands`); the slots that it names (`slot_range`).
 pub mod operands;
 mod slot_range;
 
@@ -21,7 +22,7 @@ ghost use lib.ListN.{getD};
 ghost use Rattle.definition.specs.Outputs.{noCell};
 ghost use Rattle.visit.specs.Held.{Standing, argsIn};
 
-pub struct Visit {
+pub struct RowVisit {
     pub chunk: usize,
     pub at: usize,
     pub ins: Instr,
@@ -33,7 +34,7 @@ pub struct Visit {
 }
 
 // The operand k, or a cell of no kind where fewer are taken.
-pub fn operand(ws: &[u32], v: Visit, k: usize) -> Cell
+pub fn operand(ws: &[u32], v: RowVisit, k: usize) -> Cell
     requires { ⌜ Standing (now ws) v ⌝ }
     requires { ⌜ k < 65536 ⌝ }
     ensures { λ r. ⌜ r ≡ getD (argsIn (now (ws .entry)) v) k noCell ⌝ }
@@ -44,8 +45,8 @@ pub fn operand(ws: &[u32], v: Visit, k: usize) -> Cell
     Cell::made(Mask::NONE, 0)
 }
 
-// Its kinds.
-pub fn operand_mask(ws: &[u32], v: Visit, k: usize) -> Mask
+// The kinds of the operand k, none where fewer are taken.
+pub fn operand_mask(ws: &[u32], v: RowVisit, k: usize) -> Mask
     requires { ⌜ Standing (now ws) v ⌝ }
     requires { ⌜ k < 65536 ⌝ }
     ensures { λ r. ⌜ r ≡ getD (argsIn (now (ws .entry)) v) k noCell .mask ⌝ }

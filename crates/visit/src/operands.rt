@@ -1,5 +1,5 @@
 // The visit of an instruction found in the workspace, and what all its operands come to.
-use crate::Visit;
+use crate::RowVisit;
 use extents::Extent;
 use index::field_of;
 use index::instr_of;
@@ -33,7 +33,7 @@ fn less(height: usize, taken: usize) -> usize
 }
 
 // The visit of the instruction at, which has a state.
-pub fn visit_at(s: &[u8], ws: &[u32], c: usize, ch: Chunk, at: usize) -> Visit
+pub fn visit_at(s: &[u8], ws: &[u32], c: usize, ch: Chunk, at: usize) -> RowVisit
     requires { ⌜ Indexed (now s) (now ws) ⌝ }
     requires { ⌜ c < length (moduleOf (now s) .chunks) ⌝ }
     requires { ⌜ ch ≡ chunkAt (now s) (now ws) c ⌝ }
@@ -45,7 +45,7 @@ pub fn visit_at(s: &[u8], ws: &[u32], c: usize, ch: Chunk, at: usize) -> Visit
     let row = row_at(ch, at);
     let ins = instr_of(s, ws, c, ch, at);
     let height = less(row_height(ws, row) as usize, 1);
-    Visit {
+    RowVisit {
         chunk: c,
         at,
         ins,
@@ -58,7 +58,7 @@ pub fn visit_at(s: &[u8], ws: &[u32], c: usize, ch: Chunk, at: usize) -> Visit
 }
 
 // The kinds that all operands have in common.
-pub fn common_kinds(ws: &[u32], v: Visit) -> Mask
+pub fn common_kinds(ws: &[u32], v: RowVisit) -> Mask
     requires { ⌜ Standing (now ws) v ⌝ }
     ensures { λ r. ⌜ r ≡ commonKinds (of 65535) (argsIn (now (ws .entry)) v) ⌝ }
 {
@@ -73,7 +73,7 @@ pub fn common_kinds(ws: &[u32], v: Visit) -> Mask
 }
 
 // The packed size of all operands.
-pub fn packed_at(ws: &[u32], v: Visit, float: u32) -> Packed
+pub fn packed_at(ws: &[u32], v: RowVisit, float: u32) -> Packed
     requires { ⌜ Standing (now ws) v ⌝ }
     ensures { λ r. ⌜ r ≡ packedExtent (argsIn (now (ws .entry)) v) float 8 ⌝ }
 {
@@ -88,7 +88,7 @@ pub fn packed_at(ws: &[u32], v: Visit, float: u32) -> Packed
 }
 
 // The extent of what a flat `NewComposite` makes.
-pub fn constructed_at(s: &[u8], ws: &[u32], t: Tables, v: Visit) -> Extent
+pub fn constructed_at(s: &[u8], ws: &[u32], t: Tables, v: RowVisit) -> Extent
     requires { ⌜ Looking (now s) (now ws) v ⌝ }
     requires { ⌜ t ≡ tablesOf (now s) ⌝ }
     ensures { λ r. ⌜ r ≡ constructedExtent (visitIn (now (s .entry)) (now (ws .entry)) v) ⌝ }

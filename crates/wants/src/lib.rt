@@ -1,8 +1,7 @@
 // What validation asks of an instruction's operands.
 ghost use mathlib.Core.Path.{_≡_};
 ghost use Rattle.masks.specs.Names.{NONE};
-ghost use Rattle.definition.specs.Wants.{require, meet, wants, nothing, never, every, same, stored};
-ghost use Rattle.wants.specs.Wants.{partBy, returnedBy, wantBy};
+ghost use Rattle.definition.specs.Wants.{require, meet, wants, nothing, never, every, same, stored, partWant, returnedWant, wantBy};
 use definition::Ask;
 use definition::Check;
 use definition::Want;
@@ -107,7 +106,7 @@ fn same(common: Mask, kind: Mask) -> Want
 
 // The composite kind that a field read wants; a boxed read is never proven.
 fn part_of(i: Instr, composite: Mask) -> Want
-    ensures { λ r. ⌜ r ≡ partBy i composite ⌝ }
+    ensures { λ r. ⌜ r ≡ partWant i composite ⌝ }
 {
     if 1 < i.a {
         return never();
@@ -133,7 +132,7 @@ fn stored(slots: Data) -> Want
 
 // A `Return` of the entry gives back its declared kinds.
 fn returned(entry: bool, declared: Mask) -> Want
-    ensures { λ r. ⌜ r ≡ returnedBy entry declared ⌝ }
+    ensures { λ r. ⌜ r ≡ returnedWant entry declared ⌝ }
 {
     if entry {
         return Want {
@@ -145,18 +144,18 @@ fn returned(entry: bool, declared: Mask) -> Want
     nothing()
 }
 
-// common: the kinds that all operands have in common; ends: those of the first two. declared: of the yielded value at a `Yield`, of the
+// common: the kinds that all operands have in common; pair: those of the first two. declared: of the yielded value at a `Yield`, of the
 // result at a `Return`. entry: the instruction is the entry's.
 pub fn want_of(
     asks: Asks,
     slots: Data,
     i: Instr,
     common: Mask,
-    ends: Mask,
+    pair: Mask,
     declared: Mask,
     entry: bool,
 ) -> Want
-    ensures { λ r. ⌜ r ≡ wantBy asks slots i common ends declared entry ⌝ }
+    ensures { λ r. ⌜ r ≡ wantBy asks slots i common pair declared entry ⌝ }
 {
     match asks {
         Asks::Free => nothing(),
@@ -165,7 +164,7 @@ pub fn want_of(
         Asks::Yielded => one(declared),
         Asks::Returned => returned(entry, declared),
         Asks::Every(allowed) => every(common.common(allowed)),
-        Asks::Ordered => every(ends.common(Mask::NUMERIC)),
+        Asks::Ordered => every(pair.common(Mask::NUMERIC)),
         Asks::Same(kind) => same(common, kind),
         Asks::Stored => stored(slots),
         Asks::PartOf(composite) => part_of(i, composite),

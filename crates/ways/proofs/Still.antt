@@ -10,7 +10,7 @@ use Rattle.ops.specs.declared.Acts.the-variants.{Still}
 use Rattle.ops.specs.declared.Rule.{Rule}
 use Rattle.ops.specs.Ops.{ruleOf}
 use Rattle.definition.specs.Outputs.{Visit, arg, instr, outputs, setting}
-use Rattle.definition.specs.Ways.{narrowing, kept, afterBy, after, setLocals}
+use Rattle.definition.specs.Ways.{narrowing, kept, isReset, after, narrowedOn, setLocals}
 use Rattle.definition.specs.Report.{isTest}
 use Rattle.rule_laws.proofs.Tests.{Testing, test-rule}
 
@@ -32,15 +32,15 @@ narrowed-still op p target to r h = narrowed-test op p target to r h .acts
 
 -- so the locals leave as they came, and what is below the operands too
 pub narrowed-after : (v : Visit) (to r : ℕ) → v .rule ≡ ruleOf (instr v .op)
-    → narrowing (v .rule .exit) (arg v 0 .flow .predicate) (instr v .a) to ≡ some r
+    → narrowedOn v to ≡ some r
     → after v ≡ kept v (outputs v) none
-unfolding after afterBy setting
+unfolding after isReset setting
 narrowed-after v to r e h =
     let a : v .rule .acts ≡ Still = ap (λ (x : Rule). x .acts) e ∙ narrowed-still (instr v .op) _ _ _ _ (rw e at h) in
     rw a
 
 pub narrowed-locals : (v : Visit) (to r : ℕ) → v .rule ≡ ruleOf (instr v .op)
-    → narrowing (v .rule .exit) (arg v 0 .flow .predicate) (instr v .a) to ≡ some r
+    → narrowedOn v to ≡ some r
     → after v .locals ≡ v .locals
 unfolding kept setLocals
 narrowed-locals v to r e h = rw (narrowed-after v to r e h)

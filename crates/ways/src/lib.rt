@@ -1,18 +1,18 @@
 // The ways that leave an instruction, and the local that is narrowed on each.
 ghost use mathlib.Core.Path.{_≡_};
 ghost use Prim.Native.Nat.{_<_, _^_};
-ghost use Rattle.flows.specs.Flow.{sameBool};
 ghost use Rattle.definition.specs.Ways.{branch, waysOf, receiverOn, narrowing};
 ghost use Rattle.ways.specs.Ways.{targets, receiver};
 use cells::Cell;
 use description::Instr;
 use flows::Predicate;
+use flows::same_bool;
 use masks::Mask;
 use ops::Exit;
 
 // Up to two targets, the next instruction first.
 pub enum Ways {
-    Nowhere,
+    Zero,
     One(usize),
     Two(usize, usize),
 }
@@ -45,18 +45,12 @@ pub fn ways_of(exit: Exit, i: Instr, at: usize, condition: Mask) -> Ways
     let target = i.a as usize;
     match exit {
         Exit::Next => Ways::One(next),
-        Exit::Stops => Ways::Nowhere,
+        Exit::Stops => Ways::Zero,
         Exit::Jumps => Ways::One(target),
         Exit::Ifs => branch(condition, Mask::FALSE, Mask::TRUE, next, target),
         Exit::Breaks => branch(condition, Mask::TRUE, Mask::FALSE, next, target),
         Exit::Restarts => Ways::One(1),
     }
-}
-
-fn same_bool(a: bool, b: bool) -> bool
-    ensures { λ r. ⌜ r ≡ sameBool a b ⌝ }
-{
-    if a { b } else { !b }
 }
 
 // The receiver of a predicate that holds where the way counts as counted.

@@ -16,7 +16,7 @@ use Rattle.flows.specs.declared.Predicate.{Predicate}
 use Rattle.cells.specs.declared.Cell.{Cell}
 use Rattle.words.specs.declared.cell.Two.{Two}
 use Rattle.words.specs.declared.cell.Four.{Four}
-use Rattle.words.specs.Layout.{Fit, copyN, decode, encode, extentOf, fourOf, off, originOf, originWords, ownedBits, ownedOf, predicateOf, predicateWords, putN, twoOf, widthOf, wordsOf}
+use Rattle.words.specs.Layout.{Storable, copyN, decode, encode, extentOf, fourOf, off, originOf, originWords, ownedBits, ownedOf, predicateOf, predicateWords, putN, twoOf, widthOf, wordsOf}
 
 -- ---- what the proofs of the code cite
 pub encoded : (c : Cell) (t : Two) (x : Four) (o p : Two) (n : ℕ) → t ≡ twoOf (c .width) → x ≡ fourOf (c .flow .bodies) → o ≡ originWords (c .flow .origin) → p ≡ predicateWords (c .flow .predicate) → n ≡ ownedBits (c .flow .owned) → wordsOf (c .mask) t x o p n ≡ encode c
@@ -70,5 +70,5 @@ unfolding putN copyN
 put-copy w vs a b zero e = refl
 put-copy w vs a b (suc n) e = ap₂ (λ (l : List ℕ) (x : ℕ). set l (b + n) x) (put-copy w vs a b n (λ k l. e k (omega arith))) (e n (omega arith))
 
-pub fits : (c : Cell) (o p : Two) → c .mask .bits < 65536 → length (c .flow .bodies) ≡ 4 → o ≡ originWords (c .flow .origin) → o .1 < 65536 → p ≡ predicateWords (c .flow .predicate) → p .1 < 65536 → Fit c
+pub fits : (c : Cell) (o p : Two) → c .mask .bits < 65536 → length (c .flow .bodies) ≡ 4 → o ≡ originWords (c .flow .origin) → o .1 < 65536 → p ≡ predicateWords (c .flow .predicate) → p .1 < 65536 → Storable c
 fits c o p m f eo lo ep lp = record { mask = m; four = f; origin = rw (← eo) lo; receiver = rw (← ep) lp }

@@ -26,7 +26,7 @@ use Rattle.flows.specs.declared.Predicate.{Predicate}
 use Rattle.flows.specs.declared.Predicate.the-variants.{Nothing as Untested, Tests}
 use Rattle.flows.specs.Flow.{absent, noFlow}
 use Rattle.cells.specs.declared.Cell.{Cell}
-use Rattle.words.specs.Layout.{widthOf, extentOf, ownedOf, originOf, predicateOf, twoOf, threeOfBody, ownedBits, originWords, predicateWords, encode, decode, cellAt, putN, putCell, copyN, sameN, flowAt, plainAt, Fit}
+use Rattle.words.specs.Layout.{widthOf, extentOf, ownedOf, originOf, predicateOf, twoOf, threeOfBody, ownedBits, originWords, predicateWords, encode, decode, cellAt, putN, putCell, copyN, sameN, flowAt, plainAt, Storable}
 use Rattle.words.proofs.Cells.{off-is, decode-eq}
 
 origin-fit : (tag n : ℕ) → originWords (originOf tag n) .1 < 65536
@@ -44,12 +44,12 @@ predicate-fit tag n = go (eqb tag 0) (eqb tag 2)
     go false true = omega arith
     go false false = omega arith
 
-pub decode-fit : (g : ℕ → ℕ) → Fit (decode g)
+pub decode-fit : (g : ℕ → ℕ) → Storable (decode g)
 unfolding decode
 decode-fit g = record { mask = omega arith; four = refl; origin = origin-fit (g 0 / 65536 / 64 % 2) (g 14 % 65536); receiver = predicate-fit (g 0 / 65536 / 16 % 4) (g 14 / 65536) }
 
 -- what is read from words fits words
-pub cellAt-fit : (w : List ℕ) (at : ℕ) → Fit (cellAt w at)
+pub cellAt-fit : (w : List ℕ) (at : ℕ) → Storable (cellAt w at)
 unfolding cellAt
 cellAt-fit w at = decode-fit _
 
@@ -115,7 +115,7 @@ cell-eq : (x y : Cell) → x .mask ≡ y .mask → x .width ≡ y .width → x .
 cell-eq x y m w b n o p =
     λ i. record { mask = m i; width = w i; flow = record { bodies = b i; owned = n i; origin = o i; predicate = p i } }
 
-pub decode-encode : (c : Cell) → Fit c → decode (λ (k : ℕ). getD (encode c) k 0) ≡ c
+pub decode-encode : (c : Cell) → Storable c → decode (λ (k : ℕ). getD (encode c) k 0) ≡ c
 unfolding decode encode
 decode-encode c f =
     let w = twoOf (c .width) in
@@ -168,7 +168,7 @@ cellAt-same w v a b e =
 pub record Holds (w : List ℕ) (at : ℕ) (c : Cell) : Type 0 where
   pub word : (k : ℕ) → k < 15 → getD w (at + k) 0 ≡ getD (encode c) k 0
 
-pub holds-cell : (w : List ℕ) (at : ℕ) (c : Cell) → Fit c → Holds w at c → cellAt w at ≡ c
+pub holds-cell : (w : List ℕ) (at : ℕ) (c : Cell) → Storable c → Holds w at c → cellAt w at ≡ c
 unfolding cellAt
 holds-cell w at c f h =
     decode-eq _ _ (λ k l. ap (λ (n : ℕ). getD w n 0) (off-is at k) ∙ h .word k l) ∙ decode-encode c f
@@ -187,7 +187,7 @@ pub putCell-holds : (w : List ℕ) (at : ℕ) (c : Cell) → at + 15 ≤ length 
 unfolding putCell
 putCell-holds w at c h = record { word = λ k l. putN-in w at (encode c) 15 h k l }
 
-pub cellAt-put : (w : List ℕ) (at : ℕ) (c : Cell) → at + 15 ≤ length w → Fit c → cellAt (putCell w at c) at ≡ c
+pub cellAt-put : (w : List ℕ) (at : ℕ) (c : Cell) → at + 15 ≤ length w → Storable c → cellAt (putCell w at c) at ≡ c
 cellAt-put w at c h f = holds-cell (putCell w at c) at c f (putCell-holds w at c h)
 
 -- ---- the comparison is true exactly where the words agree

@@ -126,7 +126,7 @@ encode c =
     (ownedBits (c .flow .owned))
 
 -- a cell that its words hold; every cell that code has is one
-pub record Fit (c : Cell) : Type 0 where
+pub record Storable (c : Cell) : Type 0 where
   pub mask : c .mask .bits < 65536
   pub four : length (c .flow .bodies) ≡ 4
   pub origin : originWords (c .flow .origin) .1 < 65536

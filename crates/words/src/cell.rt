@@ -4,7 +4,7 @@
 ghost use mathlib.Core.Path.{_≡_};
 ghost use Prim.Native.Nat.{ℕ, _+_, _≤_, _<_};
 ghost use lib.ListN.{length, getD};
-ghost use Rattle.words.specs.Layout.{widthOf, extentOf, ownedOf, originOf, predicateOf, twoOf, threeOf, fourOf, ownedBits, originWords, predicateWords, encode, decode, off, cellAt, putN, putCell, copyN, Fit};
+ghost use Rattle.words.specs.Layout.{widthOf, extentOf, ownedOf, originOf, predicateOf, twoOf, threeOf, fourOf, ownedBits, originWords, predicateWords, encode, decode, off, cellAt, putN, putCell, copyN, Storable};
 use cells::Cell;
 use extents::BodyExtent;
 use extents::Extent;
@@ -14,6 +14,9 @@ use flows::Owned;
 use flows::Predicate;
 use masks::Mask;
 use widths::Width;
+
+// The words that are the cell's: the last is not.
+const CELL_WORDS: usize = 15;
 
 struct Two(u32, u32);
 
@@ -140,7 +143,7 @@ fn four_of(b: [Extent; 4]) -> Four
 }
 
 pub fn words_of(c: Cell) -> [u32; 16]
-    ensures { λ r. ⌜ (r ≡ encode c) × Fit c ⌝ }
+    ensures { λ r. ⌜ (r ≡ encode c) × Storable c ⌝ }
 {
     let m = c.mask;
     let width = c.width;
@@ -214,13 +217,14 @@ fn get16(ws: &[u32], at: usize) -> [u32; 16]
     a
 }
 
-// Writes the first 15 words: the last is not the cell's.
-fn put15(ws: &mut [u32], at: usize, a: [u32; 16])
-    requires { ⌜ at + 15 ≤ length (now ws) ⌝ }
-    ensures { λ r. ⌜ now (ws .exit) ≡ putN (now (ws .entry)) at a 15 ⌝ }
+// Writes the first n words of a.
+pub fn put_words(ws: &mut [u32], at: usize, a: &[u32], n: usize)
+    requires { ⌜ at + n ≤ length (now ws) ⌝ }
+    requires { ⌜ n ≤ length (now a) ⌝ }
+    ensures { λ r. ⌜ now (ws .exit) ≡ putN (now (ws .entry)) at (now (a .entry)) n ⌝ }
 {
     let mut k = 0;
-    while k < 15 {
+    while k < n {
         ws[at + k] = a[k];
         k += 1;
     }
@@ -235,9 +239,10 @@ pub fn load(ws: &[u32], at: usize) -> Cell
 
 pub fn store(ws: &mut [u32], at: usize, c: Cell)
     requires { ⌜ at + 15 ≤ length (now ws) ⌝ }
-    ensures { λ r. ⌜ (now (ws .exit) ≡ putCell (now (ws .entry)) at c) × Fit c ⌝ }
+    ensures { λ r. ⌜ (now (ws .exit) ≡ putCell (now (ws .entry)) at c) × Storable c ⌝ }
 {
-    put15(ws, at, words_of(c));
+    let w = words_of(c);
+    put_words(ws, at, &w, CELL_WORDS);
 }
 
 pub fn copy16(ws: &mut [u32], from: usize, to: usize)
@@ -245,5 +250,6 @@ pub fn copy16(ws: &mut [u32], from: usize, to: usize)
     requires { ⌜ to + 15 ≤ length (now ws) ⌝ }
     ensures { λ r. ⌜ now (ws .exit) ≡ copyN (now (ws .entry)) from to 15 ⌝ }
 {
-    put15(ws, to, get16(ws, from));
+    let w = get16(ws, from);
+    put_words(ws, to, &w, CELL_WORDS);
 }

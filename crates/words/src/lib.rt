@@ -5,6 +5,7 @@ mod in_place;
 
 pub use cell::copy16;
 pub use cell::load;
+pub use cell::put_words;
 pub use cell::store;
 pub use clearing::clear;
 pub use in_place::has_flow;

@@ -7,6 +7,8 @@ use crate::run::Outcome;
 #[derive(Debug, Clone)]
 pub struct Coverage {
     pub descriptions: u64,
+    /// Those that types.rs does not judge; no other count has them.
+    pub left_out: u64,
     /// Outcomes by refusal number, 0 for accepted.
     pub outcomes: [u64; 19],
     /// Descriptions that have the instruction; accepted ones that have it;
@@ -18,7 +20,8 @@ pub struct Coverage {
 
 impl Default for Coverage {
     fn default() -> Self {
-        Coverage { descriptions: 0, outcomes: [0; 19], present: [0; 66], accepted: [0; 66], recorded: [0; 66] }
+        let none = [0; 66];
+        Coverage { descriptions: 0, left_out: 0, outcomes: [0; 19], present: none, accepted: none, recorded: none }
     }
 }
 
@@ -29,6 +32,15 @@ fn count(counts: &mut [u64; 66], set: u128) {
 }
 
 impl Coverage {
+    /// Whether what types.rs says of these bytes is to be used; else they are
+    /// counted as left out. Bytes that are no description always are: the form
+    /// check refuses them, and types.rs never sees them.
+    pub fn includes(&mut self, bytes: &[u8], judged: impl Fn(&Description) -> bool) -> bool {
+        let included = Description::decode(bytes).is_none_or(|d| judged(&d));
+        self.left_out += u64::from(!included);
+        included
+    }
+
     pub fn add(&mut self, bytes: &[u8], outcome: &Outcome) {
         self.descriptions += 1;
         self.outcomes[usize::from(outcome.number())] += 1;
@@ -56,6 +68,7 @@ impl Coverage {
 
     pub fn join(&mut self, other: &Coverage) {
         self.descriptions += other.descriptions;
+        self.left_out += other.left_out;
         let add = |a: &mut [u64], b: &[u64]| a.iter_mut().zip(b).for_each(|(a, b)| *a += b);
         add(&mut self.outcomes, &other.outcomes);
         add(&mut self.present, &other.present);
@@ -70,7 +83,8 @@ impl Coverage {
             let name = if number == 0 { "accepted".to_string() } else { format!("refused {number}") };
             out += &format!("| {name} | {count} |\n");
         }
-        out += &format!("| all | {} |\n\n", self.descriptions);
+        out += &format!("| all | {} |\n", self.descriptions);
+        out += &format!("| left out by intention | {} |\n\n", self.left_out);
         out += "| instruction | in descriptions | in accepted ones | recorded in accepted ones |\n|---|---|---|---|\n";
         for op in 0..66 {
             let (present, accepted, recorded) = (self.present[op], self.accepted[op], self.recorded[op]);
@@ -80,12 +94,14 @@ impl Coverage {
     }
 }
 
-/// Generates and runs so many descriptions.
-pub fn over(count: u64, run: u64) -> Coverage {
+/// Generates and runs so many descriptions, and counts what is judged of them.
+pub fn over(count: u64, run: u64, judged: impl Fn(&Description) -> bool) -> Coverage {
     let mut coverage = Coverage::default();
     for number in 0..count {
         let (one, measured) = super::with_measure(super::seed_of(run, number));
-        coverage.add(&one.bytes, &super::outcome(&one, &measured));
+        if coverage.includes(&one.bytes, &judged) {
+            coverage.add(&one.bytes, &super::outcome(&one, &measured));
+        }
     }
     coverage
 }

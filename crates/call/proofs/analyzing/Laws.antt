@@ -10,10 +10,9 @@ use borrow.Author.Tests.{lt-ltb, le-ltb}
 use Rattle.answers.specs.declared.Refusal.{Refusal}
 use Rattle.answers.specs.declared.Answer.{Answer}
 use Rattle.answers.specs.declared.Answer.the-variants.{Accepted, Refused}
-use Rattle.answers.specs.Answers.{numbers}
+use Rattle.answers.specs.Answers.{numbers, nowhere}
 use Rattle.le.specs.Wrote.{put}
 use Rattle.le.proofs.Laws.{put-start}
-use Rattle.definition.specs.Form.{nowhere}
 use Rattle.definition.specs.Module.{moduleOf}
 use Rattle.definition.specs.Leaves.{opened}
 use Rattle.definition.specs.Start.{firstFacts}
@@ -26,8 +25,8 @@ use Rattle.start.specs.declared.Started.{Started}
 use Rattle.start.specs.declared.Started.the-variants.{Ready}
 use Rattle.start.specs.declared.Started.the-variants.{Refused as NotStarted}
 use Rattle.start.specs.Starting.{StartedAs}
-use Rattle.run.specs.declared.Ran.{Ran}
-use Rattle.run.specs.declared.Ran.the-variants.{Done, Stop}
+use Rattle.run.specs.declared.RunEnd.{RunEnd}
+use Rattle.run.specs.declared.RunEnd.the-variants.{Done, Stop}
 use Rattle.run.specs.Running.{RanAs, ranIn, EndedBy}
 use Rattle.report_size.specs.Reporting.{Faultless, reportIn}
 use Rattle.run_laws.proofs.Faultless.{run-faultless}
@@ -74,7 +73,7 @@ pub run-ready : (s ws v : List ℕ) (x : Started) (n : ℕ) → StartedAs s ws v
 unfolding StartedAs
 run-ready s ws v x n h e = let b : StartedAs s ws v (Ready n) = rw e at h in (b .0, b .1)
 
-module _ (s ws v u : List ℕ) (cap limit reply : ℕ) (x : Started) (y : Ran) (start : StartedAs s ws v x) (ready : x ≡ Ready reply) (ran : RanAs s v u limit y)
+module _ (s ws v u : List ℕ) (cap limit reply : ℕ) (x : Started) (y : RunEnd) (start : StartedAs s ws v x) (ready : x ≡ Ready reply) (ran : RanAs s v u limit y)
     (room : cap ≡ roomIn s ws) where
   begins : StartedAs s ws v (Ready reply)
   begins = rw ready at start
@@ -102,4 +101,4 @@ module _ (s ws v u : List ℕ) (cap limit reply : ℕ) (x : Started) (y : Ran) (
   pub told-done : (steps : ℕ) (buf buf′ : List ℕ) (r : Answer) → y ≡ Done steps → Told (reported (reportIn s u reply) steps) buf r buf′
       → Told (decided (moduleOf s) cap limit) buf r buf′
   unfolding onRan ranIn reportIn
-  told-done steps buf buf′ r e h = rw (decides ∙ ap (λ (z : Ran). onRan (knownAs s) reply (ranIn s u z)) e) h
+  told-done steps buf buf′ r e h = rw (decides ∙ ap (λ (z : RunEnd). onRan (knownAs s) reply (ranIn s u z)) e) h

@@ -21,9 +21,9 @@ use Rattle.definition.specs.declared.Check.{Check}
 use Rattle.definition.specs.declared.Check.the-variants.{Fine, Unproven}
 use Rattle.definition.specs.Module.{row}
 use Rattle.definition.specs.Outputs.{Visit, arg, instr, constructedExtent}
-use Rattle.definition.specs.Wants.{require, atIndex, operandCheck, operandChecks, Asked, returned, wantOf, checksBy, checks, isProven, allProven, guardOf, guardsIn, guards, isUnknown, unpacked, unfit}
-use Rattle.layout.specs.Layout.{placeAt}
-use Rattle.visit.specs.declared.Visit.{Visit as Look}
+use Rattle.definition.specs.Wants.{require, atIndex, operandCheck, operandChecks, Asked, returned, checksBy, checks, isProven, allProven, guardOf, guardsIn, guards, isUnknown, unpacked, unfit}
+use Rattle.layout.specs.Layout.{placeAt, stackAt}
+use Rattle.visit.specs.declared.RowVisit.{RowVisit}
 use Rattle.visit.specs.Held.{Looking, argsIn, visitIn}
 use Rattle.visit.proofs.Visits.{args-are, below-is, below-long}
 use Rattle.visit.proofs.operands.Parts.{rule-is}
@@ -32,7 +32,7 @@ use Rattle.checks.specs.asked.Proving.{isNever, placesBy, foundBy, found
 use Rattle.checks.proofs.asked.Fine.{below-some}
 
 -- ---- one place more
-module _ (s ws : List ℕ) (v : Look) (w : Want) (p e : ℕ) where
+module _ (s ws : List ℕ) (v : RowVisit) (w : Want) (p e : ℕ) where
   pub asked-turn : p < e → askedFrom s ws v w p e ≡ record { place = p; found = foundIn s ws v w p } ∷ askedFrom s ws v w (p + 1) e
   unfolding askedFrom
   asked-turn h = row-turn (λ (k : ℕ). record { place = k; found = foundIn s ws v w k }) p e h
@@ -61,7 +61,7 @@ pub at-place : (p start n : ℕ) (c : Check) → start ≤ p → atIndex p (star
 unfolding atIndex
 at-place p start n c h = ap (λ (b : Bool). cond b c Fine) (same-test p start n h)
 
-module _ (s ws : List ℕ) (v : Look) (x : Looking s ws v) (w : Want) where
+module _ (s ws : List ℕ) (v : RowVisit) (x : Looking s ws v) (w : Want) where
   -- what is asked about, by the ask a
   abbrev asked : (Ask → ℕ → Mask → Check) → Ask → ℕ → Asked
   asked f a p = record { place = p; found = f a p (cellAt ws (placeAt (v .row) p) .mask) }
@@ -69,18 +69,18 @@ module _ (s ws : List ℕ) (v : Look) (x : Looking s ws v) (w : Want) where
   abbrev operandsBy : Ask → ℕ → Mask → Check
   operandsBy a p m = operandCheck (visitIn s ws v) w a (p - length (visitIn s ws v .below)) m
 
-  operands-asked : (n k : ℕ) → operandChecks (visitIn s ws v) w k (cellsAt ws (v .row + 96 + 16 * (v .start + k)) n)
+  operands-asked : (n k : ℕ) → operandChecks (visitIn s ws v) w k (cellsAt ws (placeAt (v .row) (v .start + k)) n)
       ≡ row (asked operandsBy (w .ask)) (v .start + k) n
   unfolding operandChecks cellsAt row
   operands-asked zero k = refl
   operands-asked (suc n) k =
       let u = visitIn s ws v in
-      let at = v .row + 96 + 16 * (v .start + k) in
+      let at = placeAt (v .row) (v .start + k) in
       let l : length (u .below) ≡ v .start = below-long s ws v x in
       let i : k ≡ (v .start + k) - length (u .below) = omega arith in
       let place : length (u .below) + k ≡ v .start + k = omega arith in
       let found = ap (λ (j : ℕ). operandCheck u w (w .ask) j (cellAt ws at .mask)) i in
-      let next : at + 16 ≡ v .row + 96 + 16 * (v .start + suc k) = omega arith in
+      let next : at + 16 ≡ placeAt (v .row) (v .start + suc k) = omega arith in
       let step : v .start + suc k ≡ suc (v .start + k) = omega arith in
       ap (λ (y : Asked). y ∷ operandChecks u w (suc k) (cellsAt ws (at + 16) n)) (λ j. record { place = place j; found = found j })
       ∙ ap (λ (ys : List Asked). asked operandsBy (w .ask) (v .start + k) ∷ ys)
@@ -91,7 +91,7 @@ module _ (s ws : List ℕ) (v : Look) (x : Looking s ws v) (w : Want) where
   all-operands =
       let z : v .start ≡ v .start + 0 = omega arith in
       ap (operandChecks (visitIn s ws v) w 0) (args-are s ws v x)
-      ∙ ap (λ (b : ℕ). operandChecks (visitIn s ws v) w 0 (cellsAt ws (v .row + 96 + 16 * b) (v .height - v .start))) z
+      ∙ ap (λ (b : ℕ). operandChecks (visitIn s ws v) w 0 (cellsAt ws (placeAt (v .row) b) (v .height - v .start))) z
       ∙ operands-asked (v .height - v .start) 0
       ∙ ap (λ (b : ℕ). row (asked operandsBy (w .ask)) b (v .height - v .start)) (sym z)
 
@@ -104,7 +104,7 @@ module _ (s ws : List ℕ) (v : Look) (x : Looking s ws v) (w : Want) where
       let u = visitIn s ws v in
       ap (λ (n : ℕ). getD (u .below) (n - 1) (arg u 0)) (below-long s ws v x)
       ∙ ap (λ (l : List Cell). getD l (v .start - 1) (arg u 0)) (below-is s ws v x)
-      ∙ cellsAt-getD ws (v .row + 96) (v .start) (v .start - 1) (arg u 0) (omega arith)
+      ∙ cellsAt-getD ws (stackAt (v .row)) (v .start) (v .start - 1) (arg u 0) (omega arith)
 
   abbrev valueBy : Ask → ℕ → Mask → Check
   valueBy a p m = require m (w .first)
@@ -153,13 +153,10 @@ never-is Writes h = absurd (true≢false (sym h))
 never-is WritesIndexed h = absurd (true≢false (sym h))
 
 -- ---- the definition's checks
-module _ (s ws : List ℕ) (v : Look) (w : Want) (a : Asking s ws v w) where
-  same-want : wantOf (visitIn s ws v) (visitIn s ws v .rule .asks) ≡ w
-  same-want = ap (λ (r : Rule). wantOf (visitIn s ws v) (r .asks)) (sym (rule-is s ws v (a .looking))) ∙ sym (a .want)
-
+module _ (s ws : List ℕ) (v : RowVisit) (w : Want) (a : Asking s ws v w) where
   checks-want : checks (visitIn s ws v) ≡ checksBy (visitIn s ws v) w (w .ask)
   unfolding checks
-  checks-want = ap (λ (u : Want). checksBy (visitIn s ws v) u (u .ask)) same-want
+  checks-want = ap (λ (u : Want). checksBy (visitIn s ws v) u (u .ask)) (sym (a .want))
 
   -- unless nothing proves it, the checks are what is found at the places asked about
   pub checks-are : isNever (w .ask) ≡ false → checks (visitIn s ws v) ≡ askedIn s ws v w

@@ -10,7 +10,6 @@ use borrow.Author.Tests.{eqb-false}
 use Rattle.masks.specs.declared.Mask.{Mask}
 use Rattle.masks.specs.Mask.{common, oneKind}
 use Rattle.masks.specs.Names.{NONE}
-use Rattle.widths.specs.Shape.{shapeMask}
 use Rattle.description.specs.declared.Instr.{Instr}
 use Rattle.ops.specs.declared.Asks.{Asks}
 use Rattle.ops.specs.declared.Asks.the-variants.{Free, First as OneWithin, Both as TwoWithin, Yielded, Returned, Every as EachWithin, Ordered, Same, Stored, PartOf, Never as NotProven}
@@ -24,9 +23,9 @@ use Rattle.definition.specs.declared.Want.{Want}
 use Rattle.definition.specs.Module.{Module, moduleOf}
 use Rattle.definition.specs.Data.{slotCount, dataFault}
 use Rattle.definition.specs.Outputs.{Visit, instr}
-use Rattle.definition.specs.Wants.{wants, nothing, never, every, same, stored, isEntry, wantOf}
-use Rattle.definition.specs.Leaves.{hopeless, nothingBelow, always}
-use Rattle.visit.specs.declared.Visit.{Visit as Look}
+use Rattle.definition.specs.Wants.{wants, nothing, never, every, same, stored, returnedWant, partWant, wantBy, wantOf}
+use Rattle.definition.specs.Leaves.{hopeless, isReturn, nothingBelow, always}
+use Rattle.visit.specs.declared.RowVisit.{RowVisit}
 use Rattle.visit.specs.Held.{visitIn}
 use Rattle.visit.proofs.Visits.{below-long}
 use Rattle.visit.proofs.operands.Parts.{code-is, ins-is, rule-is}
@@ -76,65 +75,74 @@ returned-class : (b : Bool) (k : Mask) → classOf (cond b (wants Below k NONE) 
 returned-class true k = omega arith
 returned-class false k = omega arith
 
-pub wants-stored : (v : Visit) (x : Asks) → classOf (wantOf v x .ask) ≡ 2 → x ≡ Stored
-unfolding wantOf
-wants-stored v Free h = absurd (omega arith)
-wants-stored v (OneWithin m) h = absurd (omega arith)
-wants-stored v (TwoWithin m n) h = absurd (omega arith)
-wants-stored v Yielded h = absurd (omega arith)
-wants-stored v Returned h = absurd (omega (arith, h, returned-class (isEntry v) (shapeMask (v .chunk .result))))
-wants-stored v (EachWithin m) h = absurd (omega (arith, sym (every-class _) ∙ h))
-wants-stored v Ordered h = absurd (omega (arith, sym (every-class _) ∙ h))
-wants-stored v (Same k) h = absurd (omega (arith, sym (same-class _ k) ∙ h))
-wants-stored v Stored h = refl
-wants-stored v (PartOf k) h = absurd (omega (arith, sym (part-class (ltb 1 (instr v .a)) k) ∙ h))
-wants-stored v NotProven h = absurd (omega arith)
+module _ (d : Data) (i : Instr) (all pair declared : Mask) (entry : Bool) where
+  stored-alone : (x : Asks) → classOf (wantBy x d i all pair declared entry .ask) ≡ 2 → x ≡ Stored
+  unfolding wantBy returnedWant partWant
+  stored-alone Free h = absurd (omega arith)
+  stored-alone (OneWithin m) h = absurd (omega arith)
+  stored-alone (TwoWithin m n) h = absurd (omega arith)
+  stored-alone Yielded h = absurd (omega arith)
+  stored-alone Returned h = absurd (omega (arith, h, returned-class entry declared))
+  stored-alone (EachWithin m) h = absurd (omega (arith, sym (every-class _) ∙ h))
+  stored-alone Ordered h = absurd (omega (arith, sym (every-class _) ∙ h))
+  stored-alone (Same k) h = absurd (omega (arith, sym (same-class _ k) ∙ h))
+  stored-alone Stored h = refl
+  stored-alone (PartOf k) h = absurd (omega (arith, sym (part-class (ltb 1 (i .a)) k) ∙ h))
+  stored-alone NotProven h = absurd (omega arith)
 
-pub wants-below : (v : Visit) (x : Asks) → classOf (wantOf v x .ask) ≡ 1 → x ≡ Returned
+  below-alone : (x : Asks) → classOf (wantBy x d i all pair declared entry .ask) ≡ 1 → x ≡ Returned
+  unfolding wantBy returnedWant partWant
+  below-alone Free h = absurd (omega arith)
+  below-alone (OneWithin m) h = absurd (omega arith)
+  below-alone (TwoWithin m n) h = absurd (omega arith)
+  below-alone Yielded h = absurd (omega arith)
+  below-alone Returned h = refl
+  below-alone (EachWithin m) h = absurd (omega (arith, sym (every-class _) ∙ h))
+  below-alone Ordered h = absurd (omega (arith, sym (every-class _) ∙ h))
+  below-alone (Same k) h = absurd (omega (arith, sym (same-class _ k) ∙ h))
+  below-alone Stored h = absurd (omega (arith, sym (stored-class d) ∙ h))
+  below-alone (PartOf k) h = absurd (omega (arith, sym (part-class (ltb 1 (i .a)) k) ∙ h))
+  below-alone NotProven h = absurd (omega arith)
+
+wants-stored : (v : Visit) → classOf (wantOf v .ask) ≡ 2 → v .rule .asks ≡ Stored
 unfolding wantOf
-wants-below v Free h = absurd (omega arith)
-wants-below v (OneWithin m) h = absurd (omega arith)
-wants-below v (TwoWithin m n) h = absurd (omega arith)
-wants-below v Yielded h = absurd (omega arith)
-wants-below v Returned h = refl
-wants-below v (EachWithin m) h = absurd (omega (arith, sym (every-class _) ∙ h))
-wants-below v Ordered h = absurd (omega (arith, sym (every-class _) ∙ h))
-wants-below v (Same k) h = absurd (omega (arith, sym (same-class _ k) ∙ h))
-wants-below v Stored h = absurd (omega (arith, sym (stored-class (v .rule .slots)) ∙ h))
-wants-below v (PartOf k) h = absurd (omega (arith, sym (part-class (ltb 1 (instr v .a)) k) ∙ h))
-wants-below v NotProven h = absurd (omega arith)
+wants-stored v h = stored-alone _ _ _ _ _ _ (v .rule .asks) h
+
+wants-below : (v : Visit) → classOf (wantOf v .ask) ≡ 1 → v .rule .asks ≡ Returned
+unfolding wantOf
+wants-below v h = below-alone _ _ _ _ _ _ (v .rule .asks) h
 
 -- ---- what is not refused
-module _ (v : Visit) (height : ℕ) (f : always v height ≡ 0) where
+module _ (v : Visit) (f : always v ≡ 0) where
   returns-some : v .rule .acts ≡ Returns → 0 < length (v .below)
-  unfolding nothingBelow
+  unfolding isReturn
   returns-some e =
-      let a : nothingBelow v (v .rule .acts) ≡ false =
-      neither (hopeless v (v .rule .asks)) (nothingBelow v (v .rule .acts)) (neither (ltb height (instr v .taken)) _ (always-parts v height f .0) .1) .1 in
+      let a : nothingBelow v ≡ false =
+      neither (hopeless (v .rule .asks) (instr v .a)) (nothingBelow v) (neither (ltb (v .height) (instr v .taken)) _ (always-parts v f .0) .1) .1 in
       let b : eqb (length (v .below)) 0 ≡ false = rw e at a in
       let n = eqb-false (length (v .below)) 0 b in
       omega arith
 
-module _ (s ws : List ℕ) (v : Look) (w : Want) (a : Asking s ws v w) where
-  asks-as : classOf (w .ask) ≡ classOf (wantOf (visitIn s ws v) (v .rule .asks) .ask)
+module _ (s ws : List ℕ) (v : RowVisit) (w : Want) (a : Asking s ws v w) where
+  asks-as : classOf (w .ask) ≡ classOf (wantOf (visitIn s ws v) .ask)
   asks-as = ap (λ (u : Want). classOf (u .ask)) (a .want)
 
   -- what the value below asks for is there
   pub below-some : w .ask ≡ Below → 0 < v .start
   below-some e =
       let x = a .looking in
-      let c : classOf (wantOf (visitIn s ws v) (v .rule .asks) .ask) ≡ 1 = sym asks-as ∙ ap classOf e in
-      let r = asks-returned (v .ins .op) (ap (λ (u : Rule). u .asks) (sym (x .rule)) ∙ wants-below _ (v .rule .asks) c) in
+      let c : classOf (wantOf (visitIn s ws v) .ask) ≡ 1 = sym asks-as ∙ ap classOf e in
+      let r = asks-returned (v .ins .op) (ap (λ (u : Rule). u .asks) (sym (x .rule) ∙ rule-is s ws v x) ∙ wants-below _ c) in
       let q : visitIn s ws v .rule .acts ≡ Returns = ap (λ (u : Rule). u .acts) (sym (rule-is s ws v x) ∙ x .rule) ∙ r in
-      omega (arith, returns-some (visitIn s ws v) (v .height) (a .fine) q, below-long s ws v x)
+      omega (arith, returns-some (visitIn s ws v) (a .fine) q, below-long s ws v x)
 
   -- the slots that are written are there
   writes-room : classOf (w .ask) ≡ 2 → v .ins .a + slotCount (v .ins) (v .rule .slots) ≤ moduleOf s .slots
   writes-room e =
       let x = a .looking in
-      let n = asks-stored (v .ins .op) (ap (λ (u : Rule). u .asks) (sym (x .rule)) ∙ wants-stored _ (v .rule .asks) (sym asks-as ∙ e)) in
+      let n = asks-stored (v .ins .op) (ap (λ (u : Rule). u .asks) (sym (x .rule) ∙ rule-is s ws v x) ∙ wants-stored _ (sym asks-as ∙ e)) in
       let k : namesSlots (v .rule .slots) ≡ true = ap (λ (u : Rule). namesSlots (u .slots)) (x .rule) ∙ n in
-      let d = always-parts (visitIn s ws v) (v .height) (a .fine) .1 in
+      let d = always-parts (visitIn s ws v) (a .fine) .1 in
       named-end (moduleOf s) (v .ins) (v .rule .slots) k
       (ap (λ (u : Rule). dataFault (moduleOf s) (v .ins) (u .slots)) (rule-is s ws v x)
       ∙ ap (λ (i : Instr). dataFault (moduleOf s) i (visitIn s ws v .rule .slots)) (ins-is s ws v x)

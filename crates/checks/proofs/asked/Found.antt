@@ -19,7 +19,7 @@ use Rattle.definition.specs.Data.{slotsFrom}
 use Rattle.definition.specs.Outputs.{instr}
 use Rattle.definition.specs.Wants.{require, meet, atIndex, writeCheck, operandCheck}
 use Rattle.layout.specs.Layout.{placeAt}
-use Rattle.visit.specs.declared.Visit.{Visit as Look}
+use Rattle.visit.specs.declared.RowVisit.{RowVisit}
 use Rattle.visit.specs.Held.{Looking, Standing, factsIn, visitIn}
 use Rattle.layout.proofs.Read.{row-small}
 use Rattle.visit.proofs.Visits.{below-long, looking-standing}
@@ -28,7 +28,7 @@ use Rattle.checks.specs.asked.Proving.{placesBy, foundBy, foundIn}
 use Rattle.checks.proofs.asked.Checked.{at-place}
 
 -- a place that is asked about is on the stack
-pub place-low : (ws : List ℕ) (v : Look) (a : Ask) (p : ℕ) → Standing ws v → p < placesBy v a .end → p < v .height
+pub place-low : (ws : List ℕ) (v : RowVisit) (a : Ask) (p : ℕ) → Standing ws v → p < placesBy v a .end → p < v .height
 unfolding placesBy
 place-low ws v Below p x h = omega (arith, x .start)
 place-low ws v Nothing p x h = h
@@ -40,14 +40,14 @@ place-low ws v WritesIndexed p x h = h
 place-low ws v Never p x h = h
 
 -- its cell is in the workspace, at a small address
-pub place-fits : (s ws : List ℕ) (v : Look) → Looking s ws v → (a : Ask) (p : ℕ) → p < placesBy v a .end
+pub place-fits : (s ws : List ℕ) (v : RowVisit) → Looking s ws v → (a : Ask) (p : ℕ) → p < placesBy v a .end
     → (placeAt (v .row) p < length ws) × (placeAt (v .row) p < 4294967296)
 place-fits s ws v x a p h =
     let z = looking-standing s ws v x in
     let l = place-low ws v a p z h in
     (omega (arith, z .room, l), omega (arith, l, x .row, x .low, row-small s ws (x .indexed) (v .chunk) (v .at) (x .chunk) (x .at)))
 
-module _ (s ws : List ℕ) (v : Look) (x : Looking s ws v) (w : Want) (p : ℕ) (low : placesBy v (w .ask) .from ≤ p) (m : Mask) (q : m ≡ cellAt ws (placeAt (v .row) p) .mask) where
+module _ (s ws : List ℕ) (v : RowVisit) (x : Looking s ws v) (w : Want) (p : ℕ) (low : placesBy v (w .ask) .from ≤ p) (m : Mask) (q : m ≡ cellAt ws (placeAt (v .row) p) .mask) where
   found-by : (a : Ask) → w .ask ≡ a → foundBy (visitIn s ws v) w a p m ≡ foundIn s ws v w p
   unfolding foundIn
   found-by a e = ap (foundBy (visitIn s ws v) w a p) q ∙ ap (λ (b : Ask). foundBy (visitIn s ws v) w b p (cellAt ws (placeAt (v .row) p) .mask)) (sym e)

@@ -16,21 +16,18 @@ use Rattle.ops.specs.declared.Asks.the-variants.{Free, First as OneWithin, Both
 use Rattle.ops.specs.declared.Rule.{Rule}
 use Rattle.definition.specs.Module.{siteOf, moduleOf}
 use Rattle.definition.specs.Outputs.{noCell, instr, commonKinds, shared}
-use Rattle.definition.specs.Wants.{yieldedMask, isEntry, wantOf}
-use Rattle.definition.specs.Leaves.{visitOf}
+use Rattle.definition.specs.Wants.{yieldedMask, isEntry, pairKinds, declaredKinds, wantBy, declaredMask, wantOf}
+use Rattle.definition.specs.Leaves.{visitOf, lineAt}
 use Rattle.definition.specs.Start.{isSite}
-use Rattle.form_laws.specs.Good.{chunkNo, lineNo}
+use Rattle.form_laws.specs.Good.{chunkNo}
 use Rattle.layout.specs.declared.Chunk.{Chunk as ChunkNumbers}
 use Rattle.layout.specs.Indexed.{chunkAt}
 use Rattle.layout.proofs.Read.{place-small, field-small, place-is, declared-is, site-is}
-use Rattle.wants.specs.Wants.{wantBy}
-use Rattle.wants.proofs.Wants.{endsKinds, declaredMask, want-by-case}
-use Rattle.visit.specs.declared.Visit.{Visit as Look}
+use Rattle.visit.specs.declared.RowVisit.{RowVisit}
 use Rattle.visit.specs.Held.{Looking, argsIn, visitIn}
 use Rattle.visit.proofs.Visits.{args-are}
 use Rattle.visit.proofs.operands.Parts.{ins-is, rule-is, operand-is}
 use Rattle.rule_laws.proofs.Told.{asks-yielded}
-use Rattle.checks.specs.asked.Proving.{declaredBy}
 
 -- a site that is there
 yielded-there : (s : List ℕ) (p : ℕ) → isSite (siteOf s p) ≡ true → shapeMask (yieldedOf s p) ≡ yieldedMask (siteOf s p)
@@ -42,14 +39,14 @@ yielded-there s p h = go (hasSite s p) h
     go true h = refl
     go false h = cc
 
-module _ (s ws : List ℕ) (v : Look) (x : Looking s ws v) where
+module _ (s ws : List ℕ) (v : RowVisit) (x : Looking s ws v) where
   pub field-room : v .field < 1048576
   field-room = omega (arith, x .field, field-small s (v .chunk) (x .chunk) (v .at) (x .at), x .indexed .good .long)
 
   yielded-is : v .rule .asks ≡ Yielded → shapeMask (yieldedOf s (v .field)) ≡ yieldedMask (visitIn s ws v .line .site)
   unfolding visitIn visitOf
   yielded-is e =
-      let line = lineNo (chunkNo (moduleOf s) (v .chunk)) (v .at) in
+      let line = lineAt (chunkNo (moduleOf s) (v .chunk)) (v .at) in
       let o = asks-yielded (v .ins .op) (ap (λ (u : Rule). u .asks) (sym (x .rule)) ∙ e) in
       let l = x .indexed .good .eachChunk (v .chunk) (x .chunk) .lines (v .at) (x .at) .yields (ap (λ (i : Instr). i .op) (sym (x .ins)) ∙ o) in
       let p : line .site ≡ siteOf s (v .field) = site-is s (v .chunk) (x .chunk) (v .at) (x .at) ∙ ap (siteOf s) (sym (x .field)) in
@@ -65,8 +62,9 @@ module _ (s ws : List ℕ) (v : Look) (x : Looking s ws v) where
     result-is = ap (λ (p : ℕ). shapeMask (resultOf s p)) (place-is s ws (v .chunk) ch c) ∙ ap shapeMask (sym (declared-is s (v .chunk) (x .chunk)))
 
     declared-by : (a : Asks) → v .rule .asks ≡ a
-        → declaredBy a (shapeMask (yieldedOf s (v .field))) (shapeMask (resultOf s (ch .at))) ≡ declaredMask (visitIn s ws v) a
-    unfolding declaredBy declaredMask
+        → declaredKinds a (shapeMask (yieldedOf s (v .field))) (shapeMask (resultOf s (ch .at)))
+        ≡ declaredKinds a (yieldedMask (visitIn s ws v .line .site)) (shapeMask (visitIn s ws v .chunk .result))
+    unfolding declaredKinds
     declared-by Free e = refl
     declared-by (OneWithin m) e = refl
     declared-by (TwoWithin m n) e = refl
@@ -79,23 +77,29 @@ module _ (s ws : List ℕ) (v : Look) (x : Looking s ws v) where
     declared-by (PartOf k) e = refl
     declared-by NotProven e = refl
 
-    ends-are : common (kind (getD (argsIn ws v) 0 noCell .mask)) (kind (getD (argsIn ws v) 1 noCell .mask)) ≡ endsKinds (visitIn s ws v)
-    unfolding endsKinds
-    ends-are = rw (operand-is s ws v x 0, operand-is s ws v x 1) refl
+    declared-are : declaredKinds (v .rule .asks) (shapeMask (yieldedOf s (v .field))) (shapeMask (resultOf s (ch .at))) ≡ declaredMask (visitIn s ws v)
+    unfolding declaredMask
+    declared-are =
+        let u = visitIn s ws v in
+        declared-by (v .rule .asks) refl
+        ∙ ap (λ (r : Rule). declaredKinds (r .asks) (yieldedMask (u .line .site)) (shapeMask (u .chunk .result))) (rule-is s ws v x)
+
+    pair-is : common (kind (getD (argsIn ws v) 0 noCell .mask)) (kind (getD (argsIn ws v) 1 noCell .mask)) ≡ pairKinds (visitIn s ws v)
+    unfolding pairKinds
+    pair-is = rw (operand-is s ws v x 0, operand-is s ws v x 1) refl
 
     -- all that the code hands over
-    pub want-is : (all ends declared : Mask) (entry : Bool) → all ≡ commonKinds (of 65535) (argsIn ws v)
-        → ends ≡ common (kind (getD (argsIn ws v) 0 noCell .mask)) (kind (getD (argsIn ws v) 1 noCell .mask))
-        → declared ≡ declaredBy (v .rule .asks) (shapeMask (yieldedOf s (v .field))) (shapeMask (resultOf s (ch .at)))
+    pub want-is : (all pair declared : Mask) (entry : Bool) → all ≡ commonKinds (of 65535) (argsIn ws v)
+        → pair ≡ common (kind (getD (argsIn ws v) 0 noCell .mask)) (kind (getD (argsIn ws v) 1 noCell .mask))
+        → declared ≡ declaredKinds (v .rule .asks) (shapeMask (yieldedOf s (v .field))) (shapeMask (resultOf s (ch .at)))
         → entry ≡ isEntry (visitIn s ws v)
-        → wantBy (v .rule .asks) (v .rule .slots) (v .ins) all ends declared entry ≡ wantOf (visitIn s ws v) (v .rule .asks)
-    want-is all ends declared entry ea ee ed en =
-        let q = v .rule .asks in
+        → wantBy (v .rule .asks) (v .rule .slots) (v .ins) all pair declared entry ≡ wantOf (visitIn s ws v)
+    unfolding wantOf
+    want-is all pair declared entry ea ee ed en =
         let u = visitIn s ws v in
-        ap (λ (r : Rule). wantBy q (r .slots) (v .ins) all ends declared entry) (rule-is s ws v x)
-        ∙ ap (λ (i : Instr). wantBy q (u .rule .slots) i all ends declared entry) (ins-is s ws v x)
-        ∙ ap (λ (m : Mask). wantBy q (u .rule .slots) (instr u) m ends declared entry) (ea ∙ ap (commonKinds (of 65535)) (sym (args-are s ws v x)))
-        ∙ ap (λ (m : Mask). wantBy q (u .rule .slots) (instr u) (shared u) m declared entry) (ee ∙ ends-are)
-        ∙ ap (λ (m : Mask). wantBy q (u .rule .slots) (instr u) (shared u) (endsKinds u) m entry) (ed ∙ declared-by q refl)
-        ∙ ap (wantBy q (u .rule .slots) (instr u) (shared u) (endsKinds u) (declaredMask u q)) en
-        ∙ sym (want-by-case u q)
+        ap (λ (r : Rule). wantBy (r .asks) (r .slots) (v .ins) all pair declared entry) (rule-is s ws v x)
+        ∙ ap (λ (i : Instr). wantBy (u .rule .asks) (u .rule .slots) i all pair declared entry) (ins-is s ws v x)
+        ∙ ap (λ (m : Mask). wantBy (u .rule .asks) (u .rule .slots) (instr u) m pair declared entry) (ea ∙ ap (commonKinds (of 65535)) (sym (args-are s ws v x)))
+        ∙ ap (λ (m : Mask). wantBy (u .rule .asks) (u .rule .slots) (instr u) (shared u) m declared entry) (ee ∙ pair-is)
+        ∙ ap (λ (m : Mask). wantBy (u .rule .asks) (u .rule .slots) (instr u) (shared u) (pairKinds u) m entry) (ed ∙ declared-are)
+        ∙ ap (wantBy (u .rule .asks) (u .rule .slots) (instr u) (shared u) (pairKinds u) (declaredMask u)) en

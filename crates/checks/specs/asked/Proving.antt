@@ -5,9 +5,6 @@ use mathlib.Core.Bool.{Bool, true, false}
 use mathlib.Core.List.{List}
 use lib.ListN.{length}
 use Rattle.masks.specs.declared.Mask.{Mask}
-use Rattle.masks.specs.Names.{NONE}
-use Rattle.ops.specs.declared.Asks.{Asks}
-use Rattle.ops.specs.declared.Asks.the-variants.{Free, First as OneWithin, Both as TwoWithin, Yielded, Returned, Every as EachWithin, Ordered, Same, Stored, PartOf, Never as NotProven}
 use Rattle.words.specs.Layout.{cellAt}
 use Rattle.definition.specs.declared.Ask.{Ask}
 use Rattle.definition.specs.declared.Ask.the-variants.{Nothing, First, Both, Every, Below, Writes, WritesIndexed, Never}
@@ -18,23 +15,9 @@ use Rattle.definition.specs.Outputs.{Visit}
 use Rattle.definition.specs.Wants.{require, wantOf, operandCheck, Asked}
 use Rattle.definition.specs.Leaves.{always}
 use Rattle.layout.specs.Layout.{placeAt}
-use Rattle.visit.specs.declared.Visit.{Visit as Look}
+use Rattle.visit.specs.declared.RowVisit.{RowVisit}
 use Rattle.visit.specs.Held.{Looking, visitIn}
 use Rattle.checks.specs.declared.asked.Places.{Places}
-
--- the declared kinds: of the yielded value at a `Yield`, of the result at a `Return`
-unfoldable pub declaredBy : Asks → Mask → Mask → Mask
-declaredBy Free yielded result = NONE
-declaredBy (OneWithin m) yielded result = NONE
-declaredBy (TwoWithin m n) yielded result = NONE
-declaredBy Yielded yielded result = yielded
-declaredBy Returned yielded result = result
-declaredBy (EachWithin m) yielded result = NONE
-declaredBy Ordered yielded result = NONE
-declaredBy (Same k) yielded result = NONE
-declaredBy Stored yielded result = NONE
-declaredBy (PartOf k) yielded result = NONE
-declaredBy NotProven yielded result = NONE
 
 unfoldable pub isNever : Ask → Bool
 isNever Never = true
@@ -47,7 +30,7 @@ isNever Writes = false
 isNever WritesIndexed = false
 
 -- the places that are asked about: the operands, or the value below them
-unfoldable pub placesBy : Look → Ask → Places
+unfoldable pub placesBy : RowVisit → Ask → Places
 placesBy v Below = record { from = v .start - 1; end = v .start }
 placesBy v Nothing = record { from = v .start; end = v .height }
 placesBy v First = record { from = v .start; end = v .height }
@@ -68,18 +51,18 @@ foundBy v w Writes p m = operandCheck v w Writes (p - length (v .below)) m
 foundBy v w WritesIndexed p m = operandCheck v w WritesIndexed (p - length (v .below)) m
 foundBy v w Never p m = operandCheck v w Never (p - length (v .below)) m
 
-unfoldable pub foundIn : List ℕ → List ℕ → Look → Want → ℕ → Check
+unfoldable pub foundIn : List ℕ → List ℕ → RowVisit → Want → ℕ → Check
 foundIn s ws v w p = foundBy (visitIn s ws v) w (w .ask) p (cellAt ws (placeAt (v .row) p) .mask)
 
 -- the places from p up to e, each with what is found there; and all that are asked about
-unfoldable pub askedFrom : List ℕ → List ℕ → Look → Want → ℕ → ℕ → List Asked
+unfoldable pub askedFrom : List ℕ → List ℕ → RowVisit → Want → ℕ → ℕ → List Asked
 askedFrom s ws v w p e = row (λ k. record { place = k; found = foundIn s ws v w k }) p (e - p)
 
-unfoldable pub askedIn : List ℕ → List ℕ → Look → Want → List Asked
+unfoldable pub askedIn : List ℕ → List ℕ → RowVisit → Want → List Asked
 askedIn s ws v w = askedFrom s ws v w (placesBy v (w .ask) .from) (placesBy v (w .ask) .end)
 
 -- a visit that nothing refuses whatever the mode, with what is asked of it
-pub record Asking (s ws : List ℕ) (v : Look) (w : Want) : Type 0 where
+pub record Asking (s ws : List ℕ) (v : RowVisit) (w : Want) : Type 0 where
   pub looking : Looking s ws v
-  pub fine : always (visitIn s ws v) (v .height) ≡ 0
-  pub want : w ≡ wantOf (visitIn s ws v) (v .rule .asks)
+  pub fine : always (visitIn s ws v) ≡ 0
+  pub want : w ≡ wantOf (visitIn s ws v)

@@ -10,8 +10,9 @@ use lib.ListN.{length}
 use Rattle.masks.proofs.Both.{both}
 use Rattle.description.specs.Fields.{tagAt, nextAt}
 use Rattle.definition.specs.declared.Scan.{Scan}
-use Rattle.definition.specs.declared.Step.the-variants.{Stop}
-use Rattle.definition.specs.Form.{nowhere, headerStep, chunkStep, instrStep, siteStep, tableStep, fieldStep}
+use Rattle.definition.specs.declared.ScanStep.the-variants.{Stop}
+use Rattle.answers.specs.Answers.{nowhere}
+use Rattle.definition.specs.Form.{headerStep, chunkStep, instrStep, siteStep, tableStep, fieldStep}
 
 pub overrun : (s : List ℕ) (p : ℕ) (t : Scan) → length s < nextAt s p → fieldStep s p t ≡ Stop (nowhere 1 0)
 unfolding fieldStep

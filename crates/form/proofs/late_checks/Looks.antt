@@ -15,7 +15,8 @@ use Rattle.answers.specs.declared.Refusal.{Refusal}
 use Rattle.description.specs.Fields.{tagAt, nextAt, fieldsFrom, ofTag, instrOf}
 use Rattle.description.proofs.Walk.{fields-turn, fields-end}
 use Rattle.definition.specs.Module.{signedParams}
-use Rattle.definition.specs.Form.{nowhere, parameters, lateFault, lateLook}
+use Rattle.answers.specs.Answers.{nowhere}
+use Rattle.definition.specs.Form.{parameters, lateFault, lateLook}
 use Rattle.form.specs.late_checks.Counted.{counted, paramList, paramTable}
 
 -- ---- stores from a place on

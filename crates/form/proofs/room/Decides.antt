@@ -8,7 +8,8 @@ use lib.Dec.{leb}
 use borrow.Author.Tests.{leb-false}
 use Rattle.definition.specs.declared.Form.{Form}
 use Rattle.definition.specs.declared.Form.the-variants.{Fine, Refused}
-use Rattle.definition.specs.Form.{formOf, nowhere}
+use Rattle.answers.specs.Answers.{nowhere}
+use Rattle.definition.specs.Form.{formOf}
 use Rattle.definition.specs.Module.{moduleOf}
 use Rattle.definition.specs.Call.{Decided, turned, decided, onForm, decide}
 use Rattle.masks.proofs.Both.{never}

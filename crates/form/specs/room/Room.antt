@@ -5,7 +5,8 @@ use mathlib.Core.List.{List}
 use lib.Dec.{leb}
 use Rattle.definition.specs.declared.Form.{Form}
 use Rattle.definition.specs.declared.Form.the-variants.{Fine, Refused}
-use Rattle.definition.specs.Form.{formOf, nowhere}
+use Rattle.answers.specs.Answers.{nowhere}
+use Rattle.definition.specs.Form.{formOf}
 
 unfoldable pub withRoom : ℕ → ℕ → Form
 withRoom w words = cond (leb words w) (Refused (nowhere 5 0)) (Fine w)

@@ -14,11 +14,14 @@ numbers-at-requires c κs = search needs
 number-words-requires : tie.Need-number-words-requires
 number-words-requires c κs = search needs
 
-put10-requires : tie.Need-put10-requires
-put10-requires c κs = search needs
+slice-aggregate-put-words : tie.Need-slice-aggregate-put-words
+slice-aggregate-put-words c = search needs
 
-add-t12 : tie.Need-add-t12
-add-t12 c = search needs
+put-words-requires : tie.Need-put-words-requires
+put-words-requires c κs = search needs
+
+add-t15 : tie.Need-add-t15
+add-t15 c = search needs
 
 same-length : tie.Need-same-length
 same-length c = search needs
@@ -26,8 +29,8 @@ same-length c = search needs
 returns : tie.Need-returns
 unfolding chunkWork chunkWords
 returns c = (
-  rw (add-one, c .before .before .before .before .before .before .numbers-at .ensures, c .before .before .before .before .before .before .before .numbers-of .ensures .0),
-  c .before .before .before .put10 .ensures ∙ rw (c .before .before .before .before .number-words .ensures, c .before .before .before .before .before .before .numbers-at .ensures, c .before .before .before .before .before .before .before .numbers-of .ensures .0),
+  rw (add-one, c .before .before .before .before .before .before .before .numbers-at .ensures, c .before .before .before .before .before .before .before .before .numbers-of .ensures .0),
+  c .before .before .before .put-words .ensures ∙ rw (c .before .before .before .before .before .before .number-words .ensures, c .before .before .before .before .before .before .before .numbers-at .ensures, c .before .before .before .before .before .before .before .before .numbers-of .ensures .0),
 )
 
 pub fill-chunk-spec : {M : Type 1} → statement M
@@ -37,7 +40,8 @@ fill-chunk-spec =
     numbers-of-requires
     numbers-at-requires
     number-words-requires
-    put10-requires
-    add-t12
+    slice-aggregate-put-words
+    put-words-requires
+    add-t15
     same-length
     returns)

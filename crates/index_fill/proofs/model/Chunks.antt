@@ -12,15 +12,15 @@ use Rattle.words.proofs.Laws.{putN-in}
 use Rattle.definition.specs.Module.{Chunk, codeAfter, signedParams, chunkFrom, chunksFrom}
 use Rattle.form_laws.proofs.Places.{Placed, noPlace, codePlaces, placesFrom}
 use Rattle.form_laws.specs.Good.{noChunk, rowCells}
-use Rattle.layout.specs.Layout.{cellsBefore, numbersAt}
+use Rattle.layout.specs.Layout.{cellsBefore, numbersAt, wordAt, wordCount, wordInputs, wordLocals, wordParams, wordReachable, wordRows, wordStack, wordStreams, wordSuspends}
 use Rattle.layout.specs.Indexed.{bit}
 use Rattle.layout.specs.declared.Tables.{Tables}
 use Rattle.form_laws.proofs.Each.{row-length}
-use Rattle.index_fill.specs.declared.model.Work.{Work}
+use Rattle.index_fill.specs.declared.model.FillState.{FillState}
 use Rattle.index_fill.specs.model.Model.{numberWords, numbersOf, chunkWords, codeWords, codeWork, chunkWork, instrWork, tablesAfter, wordsAfter, wordsFrom}
 use Rattle.index_fill.proofs.model.Room.{area-of, room-chunk}
 use Rattle.index_fill.proofs.model.Keep.{number, keeps, outside, due}
-use Rattle.index_fill.proofs.model.AtWork.{Ready, siteIn, kinds, ready, after-i, after-o, count, site, rows}
+use Rattle.index_fill.proofs.model.AtWork.{FillReady, siteIn, kinds, ready, after-i, after-o, count, site, rows}
 
 -- whether each chunk has a site
 unfoldable pub siteMarks : List ℕ → List ℕ → List Bool
@@ -29,16 +29,16 @@ siteMarks s (p ∷ ps) = cond (eqb (tagAt s p) 2) (siteIn s ps ∷ siteMarks s p
 
 -- the words say of the chunk number k, whose area begins at start, what its field and its instructions' fields say
 pub record ChunkHolds (ws : List ℕ) (k start entry : ℕ) (c : Chunk) (x : Placed) (suspends : Bool) : Type 0 where
-  pub at : getD ws (numbersAt k + 0) 0 ≡ x .at
-  pub rows : getD ws (numbersAt k + 1) 0 ≡ start + 16 * (length (c .params) + 1)
-  pub count : getD ws (numbersAt k + 2) 0 ≡ length (c .code)
-  pub locals : getD ws (numbersAt k + 3) 0 ≡ c .locals
-  pub stack : getD ws (numbersAt k + 4) 0 ≡ c .stack
-  pub reachable : getD ws (numbersAt k + 5) 0 ≡ bit (c .reachable)
-  pub site : getD ws (numbersAt k + 6) 0 ≡ bit suspends
-  pub inputs : getD ws (numbersAt k + 7) 0 ≡ start
-  pub params : getD ws (numbersAt k + 8) 0 ≡ length (c .params)
-  pub streams : getD ws (numbersAt k + 9) 0 ≡ bit (eqb (c .number) entry && (eqb (c .block) 2 && ltb 0 (c .arity)))
+  pub at : getD ws (numbersAt k + wordAt) 0 ≡ x .at
+  pub rows : getD ws (numbersAt k + wordRows) 0 ≡ start + 16 * (length (c .params) + 1)
+  pub count : getD ws (numbersAt k + wordCount) 0 ≡ length (c .code)
+  pub locals : getD ws (numbersAt k + wordLocals) 0 ≡ c .locals
+  pub stack : getD ws (numbersAt k + wordStack) 0 ≡ c .stack
+  pub reachable : getD ws (numbersAt k + wordReachable) 0 ≡ bit (c .reachable)
+  pub site : getD ws (numbersAt k + wordSuspends) 0 ≡ bit suspends
+  pub inputs : getD ws (numbersAt k + wordInputs) 0 ≡ start
+  pub params : getD ws (numbersAt k + wordParams) 0 ≡ length (c .params)
+  pub streams : getD ws (numbersAt k + wordStreams) 0 ≡ bit (eqb (c .number) entry && (eqb (c .block) 2 && ltb 0 (c .arity)))
   pub fields : (i : ℕ) → i < length (c .code) → getD ws (start + 16 * (length (c .params) + 1) + i * (16 * rowCells c) + 1) 0 ≡ getD (x .code) i 0
 
 pub moved : (ws : List ℕ) (k l start begin entry : ℕ) (c : Chunk) (x : Placed) (b : Bool) → k ≡ l → start ≡ begin → ChunkHolds ws k start entry c x b → ChunkHolds ws l begin entry c x b
@@ -53,10 +53,10 @@ length-code-places s (p ∷ ps) =
     (λ e f g. rw (e, f) (length-code-places s ps))
 
 -- where the area of the chunk k of the rest begins
-abbrev startOf : List ℕ → List ℕ → Tables → Work → ℕ → ℕ
+abbrev startOf : List ℕ → List ℕ → Tables → FillState → ℕ → ℕ
 startOf s ps t w k = w .free + w .size * length (codeAfter s ps) + 16 * cellsBefore (chunksFrom s (t .signatures) (w .seen) ps) k
 
-unfoldable pub EachHolds : List ℕ → List ℕ → Tables → Work → List ℕ → Type 0
+unfoldable pub EachHolds : List ℕ → List ℕ → Tables → FillState → List ℕ → Type 0
 EachHolds s ps t w ws =
     (k : ℕ) → k < length (chunksFrom s (t .signatures) (w .seen) ps)
     → ChunkHolds (wordsFrom s ps t w ws) (w .seen + k) (startOf s ps t w k) (t .entry)
@@ -64,7 +64,7 @@ EachHolds s ps t w ws =
     (getD (placesFrom s ps) k noPlace)
     (getD (siteMarks s ps) k false)
 
-module _ (s : List ℕ) (p : ℕ) (ps : List ℕ) (t : Tables) (w : Work) (ws : List ℕ) (n : ℕ) (r : Ready s (p ∷ ps) t w ws n) where
+module _ (s : List ℕ) (p : ℕ) (ps : List ℕ) (t : Tables) (w : FillState) (ws : List ℕ) (n : ℕ) (r : FillReady s (p ∷ ps) t w ws n) where
   abbrev u : Tables
   u = tablesAfter (tagAt s p) s p t
 
@@ -72,7 +72,7 @@ module _ (s : List ℕ) (p : ℕ) (ps : List ℕ) (t : Tables) (w : Work) (ws : 
   vs = wordsAfter s p t w ws
 
   module _ (e : eqb (tagAt s p) 2 ≡ true) where
-    after-c : Ready s ps u (chunkWork s p t w) vs n
+    after-c : FillReady s ps u (chunkWork s p t w) vs n
     after-c = ready s p ps t w ws n r (chunkWork s p t w) (room-chunk s p ps t w n (r .room) e)
 
     written : (k : ℕ) → k < 10 → getD vs (numbersAt (w .seen) + k) 0 ≡ getD (numberWords (numbersOf s p t w)) k 0
@@ -136,7 +136,7 @@ module _ (s : List ℕ) (p : ℕ) (ps : List ℕ) (t : Tables) (w : Work) (ws : 
   unfolding EachHolds wordsFrom codeWork codeAfter chunksFrom placesFrom siteMarks tablesAfter
   turn-other ih e f = rw (e, f) ih
 
-  each-turn : ((v : Work) → Ready s ps u v vs n → EachHolds s ps u v vs) → EachHolds s (p ∷ ps) t w ws
+  each-turn : ((v : FillState) → FillReady s ps u v vs n → EachHolds s ps u v vs) → EachHolds s (p ∷ ps) t w ws
   each-turn ih =
       kinds s p
       (λ e. turn-chunk (ih (chunkWork s p t w) (after-c e)) e)
@@ -144,7 +144,7 @@ module _ (s : List ℕ) (p : ℕ) (ps : List ℕ) (t : Tables) (w : Work) (ws : 
       (λ e f g. turn-other (ih w (after-o s p ps t w ws n r e f)) e f)
       (λ e f g. turn-other (ih w (after-o s p ps t w ws n r e f)) e f)
 
-pub each : (s ps : List ℕ) (t : Tables) (w : Work) (ws : List ℕ) (n : ℕ) → Ready s ps t w ws n → EachHolds s ps t w ws
+pub each : (s ps : List ℕ) (t : Tables) (w : FillState) (ws : List ℕ) (n : ℕ) → FillReady s ps t w ws n → EachHolds s ps t w ws
 unfolding EachHolds chunksFrom
 each s [] t w ws n r = λ k h. absurd (omega arith)
 each s (p ∷ ps) t w ws n r = each-turn s p ps t w ws n r (λ v q. each s ps (tablesAfter (tagAt s p) s p t) v (wordsAfter s p t w ws) n q)

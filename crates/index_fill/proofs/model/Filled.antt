@@ -12,27 +12,27 @@ use Rattle.masks.specs.Names.{NONE}
 use Rattle.flows.specs.Flow.{noFlow}
 use Rattle.le.specs.Le.{at8}
 use Rattle.description.specs.Fields.{tagAt, nextAt, headerOf, ofTag}
-use Rattle.words.specs.Layout.{Fit, encode, cellAt}
+use Rattle.words.specs.Layout.{Storable, encode, cellAt}
 use Rattle.words.proofs.Laws.{holds-cell}
 use Rattle.definition.specs.Module.{Module, flag, chunksFrom, initOf, moduleFrom, moduleOf}
 use Rattle.definition.specs.Data.{member, isBody}
 use Rattle.definition.specs.Leaves.{streams}
 use Rattle.definition.specs.Start.{hasSite, initMask}
 use Rattle.form_laws.specs.Good.{Good, chunkNo}
-use Rattle.layout.specs.Layout.{areaOf, numbersAt, slotAt, inputAt, rowsAt, rowAt}
+use Rattle.layout.specs.Layout.{areaOf, numbersAt, slotAt, inputAt, rowsAt, rowAt, rowField, wordAt, headWords}
 use Rattle.layout.specs.Indexed.{bit, tablesOf, chunkPlace, suspendsAt, NumbersHold, Indexed, freshSlot, Fresh}
 use Rattle.layout.specs.declared.Tables.{Tables}
-use Rattle.index_fill.specs.declared.model.Work.{Work}
+use Rattle.index_fill.specs.declared.model.FillState.{FillState}
 use Rattle.index_fill.specs.model.Model.{slotOf, firstTables, firstWork, tablesAfter, codeWork, wordsAfter, wordsFrom, tablesFrom}
 use Rattle.index_fill.proofs.model.Keep.{inner, keeps}
-use Rattle.index_fill.proofs.model.AtWork.{Ready, length-after}
+use Rattle.index_fill.proofs.model.AtWork.{FillReady, length-after}
 use Rattle.index_fill.proofs.model.Chunks.{ChunkHolds, moved, EachHolds, each}
 use Rattle.index_fill.proofs.model.Orderly.{linked, marks-hold}
 use Rattle.index_fill.proofs.model.Slots.{placedIn, initsIn, initWord, marked, inited}
 use Rattle.index_fill.proofs.model.Counts.{counted, tables-are}
 use Rattle.index_fill.proofs.model.Begin.{fieldsOf, module-is, places-are, natives-are, shared-are, ordered-rest, chunks-are, room-first}
 
-pub length-from : (s ps : List ℕ) (t : Tables) (w : Work) (ws : List ℕ) → length (wordsFrom s ps t w ws) ≡ length ws
+pub length-from : (s ps : List ℕ) (t : Tables) (w : FillState) (ws : List ℕ) → length (wordsFrom s ps t w ws) ≡ length ws
 unfolding wordsFrom
 length-from s [] t w ws = refl
 length-from s (p ∷ ps) t w ws =
@@ -89,7 +89,7 @@ unfolding encode noFlow
 fresh-words m zero a h = absurd (omega arith)
 fresh-words m (suc k) a h = getD-replicate 15 k 0 0 (omega arith)
 
-fresh-fit : (m : Mask) → m .bits < 65536 → Fit (freshSlot m)
+fresh-fit : (m : Mask) → m .bits < 65536 → Storable (freshSlot m)
 unfolding noFlow
 fresh-fit m h = record { mask = h; four = refl; origin = omega arith; receiver = omega arith }
 
@@ -107,14 +107,14 @@ fresh-slot ws a m s f z = holds-cell ws a (freshSlot m) (fresh-fit m s) (record 
         ap (λ (i : ℕ). getD ws i 0) e ∙ f ∙ sym (fresh-first m)
     go (suc k) h = z (suc k) (omega arith) h ∙ sym (fresh-words m (suc k) (omega arith) h)
 
-module _ (s ws : List ℕ) (q : ℕ) (g : Good s q) (room : q ≤ length ws) (zeros : (k : ℕ) → k < 64 + 16 * (headerOf s 0 .chunks + headerOf s 0 .slots) → getD ws k 0 ≡ 0) where
+module _ (s ws : List ℕ) (q : ℕ) (g : Good s q) (room : q ≤ length ws) (zeros : (k : ℕ) → k < headWords + 16 * (headerOf s 0 .chunks + headerOf s 0 .slots) → getD ws k 0 ≡ 0) where
   abbrev first : Tables
   first = firstTables s q
 
   abbrev last : List ℕ
   last = wordsFrom s (fieldsOf s) (firstTables s q) (firstWork (firstTables s q)) ws
 
-  ready-first : Ready s (fieldsOf s) (firstTables s q) (firstWork (firstTables s q)) ws q
+  ready-first : FillReady s (fieldsOf s) (firstTables s q) (firstWork (firstTables s q)) ws q
   ready-first = record { room = room-first s q g; long = room }
 
   chunk-holds : (k : ℕ) → k < length (moduleOf s .chunks)
@@ -131,7 +131,7 @@ module _ (s ws : List ℕ) (q : ℕ) (g : Good s q) (room : q ≤ length ws) (ze
   unfolding rowsAt inputAt
   numbers-hold k h =
       let x = chunk-holds k h in
-      let e : numbersAt k ≡ numbersAt k + 0 = omega arith in
+      let e : numbersAt k ≡ numbersAt k + wordAt = omega arith in
       let z : 16 * areaOf (moduleOf s) k ≡ 16 * areaOf (moduleOf s) k + 16 * 0 = omega arith in
       record {
         at = ap (λ (a : ℕ). getD last a 0) e ∙ x .at;
@@ -146,7 +146,7 @@ module _ (s ws : List ℕ) (q : ℕ) (g : Good s q) (room : q ≤ length ws) (ze
       }
 
   fields-hold : (n i : ℕ) → n < length (moduleOf s .chunks) → i < length (chunkNo (moduleOf s) n .code)
-      → getD last (rowAt (moduleOf s) n i + 1) 0 ≡ getD (chunkPlace s n .code) i 0
+      → getD last (rowAt (moduleOf s) n i + rowField) 0 ≡ getD (chunkPlace s n .code) i 0
   unfolding rowAt rowsAt
   fields-hold n i h l = chunk-holds n h .fields i l
 

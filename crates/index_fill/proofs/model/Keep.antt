@@ -15,8 +15,8 @@ use Rattle.description.specs.Fields.{tagAt}
 use Rattle.words.proofs.Laws.{putN-out}
 use Rattle.definition.specs.Module.{initOf, chunksFrom}
 use Rattle.layout.specs.declared.Tables.{Tables}
-use Rattle.layout.specs.Layout.{numbersAt}
-use Rattle.index_fill.specs.declared.model.Work.{Work}
+use Rattle.layout.specs.Layout.{numbersAt, rowField, wordCount, wordSuspends, headWords}
+use Rattle.index_fill.specs.declared.model.FillState.{FillState}
 use Rattle.index_fill.specs.model.Model.{areas, slotOf, numberWords, numbersOf, chunkWords, instrWords, siteWords, codeWords, codeWork, chunkWork, instrWork, markWords, initWords, slotWords, tablesAfter, wordsAfter, wordsFrom}
 use Rattle.index_fill.proofs.model.Room.{Room, room-after}
 
@@ -53,7 +53,7 @@ slot-keeps tag s p t ws a x y =
     (either (eqb tag 8) _ ws ws a (init-keeps t (initOf s p) ws a (y (t .shared + t .inits))) refl)
 
 -- outside the slots only the chunks' fields count
-pub outside : (s : List ℕ) (p : ℕ) (t : Tables) (w : Work) (ws : List ℕ) (a : ℕ) → (a < 64 + 16 * t .chunks) ⊎ (areas t ≤ a)
+pub outside : (s : List ℕ) (p : ℕ) (t : Tables) (w : FillState) (ws : List ℕ) (a : ℕ) → (a < headWords + 16 * t .chunks) ⊎ (areas t ≤ a)
     → getD (wordsAfter s p t w ws) a 0 ≡ getD (codeWords (tagAt s p) s p t w ws) a 0
 unfolding wordsAfter
 outside s p t w ws a (inl h) =
@@ -62,33 +62,33 @@ outside s p t w ws a (inr h) =
     slot-keeps (tagAt s p) s p t (codeWords (tagAt s p) s p t w ws) a (λ k d e. omega arith) (λ k d e. omega arith)
 
 -- ---- what the chunks' fields leave
-module _ (s : List ℕ) (p : ℕ) (ps : List ℕ) (t : Tables) (w : Work) (ws : List ℕ) (n : ℕ) (r : Room s (p ∷ ps) t w n) where
+module _ (s : List ℕ) (p : ℕ) (ps : List ℕ) (t : Tables) (w : FillState) (ws : List ℕ) (n : ℕ) (r : Room s (p ∷ ps) t w n) where
   pub due : eqb (tagAt s p) 2 ≡ true → w .seen < t .chunks
   unfolding chunksFrom
   due e = let c = rw e at (r .chunks) in omega arith
 
-  pub code-keeps : (a : ℕ) → (w .seen < t .chunks → (a < numbersAt (w .seen)) ⊎ (numbersAt (w .seen) + 10 ≤ a)) → (a ≡ w .free + 1 → ⊥) → (a ≡ w .numbers + 2 → ⊥)
-      → (a ≡ w .numbers + 6 → ⊥) → getD (codeWords (tagAt s p) s p t w ws) a 0 ≡ getD ws a 0
+  pub code-keeps : (a : ℕ) → (w .seen < t .chunks → (a < numbersAt (w .seen)) ⊎ (numbersAt (w .seen) + 10 ≤ a)) → (a ≡ w .free + rowField → ⊥) → (a ≡ w .numbers + wordCount → ⊥)
+      → (a ≡ w .numbers + wordSuspends → ⊥) → getD (codeWords (tagAt s p) s p t w ws) a 0 ≡ getD ws a 0
   unfolding codeWords chunkWords instrWords siteWords
   code-keeps a x f i j = go (eqb (tagAt s p) 2) refl
     where
       rest : List ℕ
-      rest = cond (eqb (tagAt s p) 3) (set (set ws (w .free + 1) p) (w .numbers + 2) (w .instrs + 1)) (cond (eqb (tagAt s p) 4) (set ws (w .numbers + 6) 1) ws)
+      rest = cond (eqb (tagAt s p) 3) (set (set ws (w .free + rowField) p) (w .numbers + wordCount) (w .instrs + 1)) (cond (eqb (tagAt s p) 4) (set ws (w .numbers + wordSuspends) 1) ws)
 
       go : (b : Bool) → eqb (tagAt s p) 2 ≡ b → getD (cond b (chunkWords s p t w ws) rest) a 0 ≡ getD ws a 0
       go true e = putN-out ws (numbersAt (w .seen)) (numberWords (numbersOf s p t w)) 10 a (x (due e))
       go false e =
           either (eqb (tagAt s p) 3) _ _ ws a
-          (getD-set-other (set ws (w .free + 1) p) (w .numbers + 2) a (w .instrs + 1) 0 i ∙ getD-set-other ws (w .free + 1) a p 0 f)
-          (either (eqb (tagAt s p) 4) _ ws ws a (getD-set-other ws (w .numbers + 6) a 1 0 j) refl)
+          (getD-set-other (set ws (w .free + rowField) p) (w .numbers + wordCount) a (w .instrs + 1) 0 i ∙ getD-set-other ws (w .free + rowField) a p 0 f)
+          (either (eqb (tagAt s p) 4) _ ws ws a (getD-set-other ws (w .numbers + wordSuspends) a 1 0 j) refl)
 
 -- ---- words that are not written any more: numbers of the chunks seen, the inner words of a slot, rows before the free word
-pub data Kept (t : Tables) (w : Work) (a : ℕ) : Type 0 where
-  number : a < numbersAt (w .seen) → (a ≡ w .numbers + 2 → ⊥) → (a ≡ w .numbers + 6 → ⊥) → Kept t w a
+pub data Kept (t : Tables) (w : FillState) (a : ℕ) : Type 0 where
+  number : a < numbersAt (w .seen) → (a ≡ w .numbers + wordCount → ⊥) → (a ≡ w .numbers + wordSuspends → ⊥) → Kept t w a
   inner : (k j : ℕ) → k < t .slots → 0 < j → j < 15 → a ≡ slotOf t k + j → Kept t w a
   row : areas t ≤ a → a < w .free → Kept t w a
 
-module _ (s : List ℕ) (p : ℕ) (ps : List ℕ) (t : Tables) (w : Work) (ws : List ℕ) (n : ℕ) (r : Room s (p ∷ ps) t w n) where
+module _ (s : List ℕ) (p : ℕ) (ps : List ℕ) (t : Tables) (w : FillState) (ws : List ℕ) (n : ℕ) (r : Room s (p ∷ ps) t w n) where
   kept-after : (a : ℕ) → Kept t w a → getD (wordsAfter s p t w ws) a 0 ≡ getD ws a 0
   unfolding wordsAfter
   kept-after a (number l i j) =
@@ -116,7 +116,7 @@ module _ (s : List ℕ) (p : ℕ) (ps : List ℕ) (t : Tables) (w : Work) (ws : 
       go false false (inner k j h x y e) = inner k j h x y e
       go false false (row l h) = row l h
 
-pub keeps : (s ps : List ℕ) (t : Tables) (w : Work) (ws : List ℕ) (n : ℕ) → Room s ps t w n → (a : ℕ) → Kept t w a
+pub keeps : (s ps : List ℕ) (t : Tables) (w : FillState) (ws : List ℕ) (n : ℕ) → Room s ps t w n → (a : ℕ) → Kept t w a
     → getD (wordsFrom s ps t w ws) a 0 ≡ getD ws a 0
 unfolding wordsFrom
 keeps s [] t w ws n r a k = refl

@@ -8,10 +8,10 @@ use lib.Dec.{eqb}
 use lib.ListN.{length}
 use Rattle.description.specs.Fields.{tagAt, chunkOf}
 use Rattle.definition.specs.Module.{Chunk, Line, row, codeAfter, signedParams, chunkFrom, chunksFrom}
-use Rattle.layout.specs.Layout.{areaCells, numbersAt}
+use Rattle.layout.specs.Layout.{areaCells, numbersAt, rowHead}
 use Rattle.layout.specs.declared.Tables.{Tables}
 use Rattle.form_laws.proofs.Each.{row-length}
-use Rattle.index_fill.specs.declared.model.Work.{Work}
+use Rattle.index_fill.specs.declared.model.FillState.{FillState}
 use Rattle.index_fill.specs.model.Model.{areas, numbersOf, chunkWork, instrWork, codeWork, tablesAfter}
 
 -- the cells of these chunks beside their numbers
@@ -20,14 +20,14 @@ areasIn [] = 0
 areasIn (c ∷ cs) = areaCells c + areasIn cs
 
 -- n words in all
-pub record Room (s ps : List ℕ) (t : Tables) (w : Work) (n : ℕ) : Type 0 where
+pub record Room (s ps : List ℕ) (t : Tables) (w : FillState) (n : ℕ) : Type 0 where
   pub chunks : w .seen + length (chunksFrom s (t .signatures) (w .seen) ps) ≡ t .chunks
   pub chunksMost : t .chunks ≤ 64
   pub slotsMost : t .slots ≤ 1024
   pub numbers : w .numbers + 16 ≤ numbersAt (w .seen)
   pub areas : areas t ≤ w .free
   pub words : w .free + w .size * length (codeAfter s ps) + 16 * areasIn (chunksFrom s (t .signatures) (w .seen) ps) ≡ n
-  pub row : 0 < length (codeAfter s ps) → 96 ≤ w .size
+  pub row : 0 < length (codeAfter s ps) → rowHead ≤ w .size
   pub instrs : w .instrs ≤ w .free
   pub small : n < 4294967296
 
@@ -37,7 +37,7 @@ pub area-of : (s : List ℕ) (k p : ℕ) (b : Bool) (ls : List Line)
 unfolding areaCells chunkFrom
 area-of s k p b ls = rw row-length
 
-module _ (s : List ℕ) (p : ℕ) (ps : List ℕ) (t : Tables) (w : Work) (n : ℕ) (r : Room s (p ∷ ps) t w n) where
+module _ (s : List ℕ) (p : ℕ) (ps : List ℕ) (t : Tables) (w : FillState) (n : ℕ) (r : Room s (p ∷ ps) t w n) where
   pub room-chunk : eqb (tagAt s p) 2 ≡ true → Room s ps (tablesAfter (tagAt s p) s p t) (chunkWork s p t w) n
   unfolding chunksFrom codeAfter areasIn chunkWork numbersOf tablesAfter
   room-chunk e =
@@ -61,7 +61,7 @@ module _ (s : List ℕ) (p : ℕ) (ps : List ℕ) (t : Tables) (w : Work) (n : �
   unfolding chunksFrom codeAfter instrWork tablesAfter
   room-instr e f =
       let k = rw (e, f) at (r .row) in
-      let z : 96 ≤ w .size = k (omega arith) in
+      let z : rowHead ≤ w .size = k (omega arith) in
       let q = rw (e, f) at (r .words) in
       let b = r .areas in
       let i = r .instrs in

@@ -16,11 +16,11 @@ use Rattle.definition.specs.Module.{initOf}
 use Rattle.definition.specs.Data.{member}
 use Rattle.form_laws.specs.Order.{ordered}
 use Rattle.layout.specs.declared.Tables.{Tables}
-use Rattle.index_fill.specs.declared.model.Work.{Work}
+use Rattle.index_fill.specs.declared.model.FillState.{FillState}
 use Rattle.index_fill.specs.model.Model.{slotOf, oneMore, codeWords, codeWork, markWords, initWords, slotWords, tablesAfter, wordsAfter, wordsFrom}
 use Rattle.index_fill.proofs.model.Room.{room-after}
 use Rattle.index_fill.proofs.model.Keep.{code-keeps, mark-keeps, init-keeps}
-use Rattle.index_fill.proofs.model.AtWork.{Ready, ready, length-code}
+use Rattle.index_fill.proofs.model.AtWork.{FillReady, ready, length-code}
 use Rattle.index_fill.proofs.model.Orderly.{no-shared, rest-ordered}
 
 -- the slots that have a placement
@@ -56,7 +56,7 @@ one-init m ms b k old = go (ltb b k) (eqb k b) refl refl
         let h : k < b = omega (arith, ltb-false b k e, eqb-false k b f) in
         rw (lt-leb b k h)
 
-module _ (s : List ℕ) (p : ℕ) (ps : List ℕ) (t : Tables) (w : Work) (ws : List ℕ) (n : ℕ) (r : Ready s (p ∷ ps) t w ws n) (k : ℕ) (l : k < t .slots) where
+module _ (s : List ℕ) (p : ℕ) (ps : List ℕ) (t : Tables) (w : FillState) (ws : List ℕ) (n : ℕ) (r : FillReady s (p ∷ ps) t w ws n) (k : ℕ) (l : k < t .slots) where
   abbrev vs : List ℕ
   vs = codeWords (tagAt s p) s p t w ws
 
@@ -151,7 +151,7 @@ module _ (s : List ℕ) (p : ℕ) (ps : List ℕ) (t : Tables) (w : Work) (ws : 
           ∙ ap (initWord (initsIn s ps) (suc b) k) (rw (f, ← q) at init-after)
           ∙ one-init (initOf s p .bits) (initsIn s ps) b k old)
 
-pub marked : (s ps : List ℕ) (t : Tables) (w : Work) (ws : List ℕ) (n : ℕ) → Ready s ps t w ws n → (k : ℕ) → k < t .slots
+pub marked : (s ps : List ℕ) (t : Tables) (w : FillState) (ws : List ℕ) (n : ℕ) → FillReady s ps t w ws n → (k : ℕ) → k < t .slots
     → getD (wordsFrom s ps t w ws) (slotOf t k + 15) 0 ≡ cond (member k (placedIn s ps)) 65536 (getD ws (slotOf t k + 15) 0)
 unfolding wordsFrom ofTag member tablesAfter
 marked s [] t w ws n r k l = refl
@@ -161,7 +161,7 @@ marked s (p ∷ ps) t w ws n r k l =
     mark-turn s p ps t w ws n r k l _
     (marked s ps u v (wordsAfter s p t w ws) n (ready s p ps t w ws n r v (room-after s p ps t w n (r .room))) k l)
 
-pub inited : (s ps : List ℕ) (t : Tables) (w : Work) (ws : List ℕ) (n : ℕ) → Ready s ps t w ws n → (last : ℕ) → ordered s last ps ≡ true → (k : ℕ) → k < t .slots
+pub inited : (s ps : List ℕ) (t : Tables) (w : FillState) (ws : List ℕ) (n : ℕ) → FillReady s ps t w ws n → (last : ℕ) → ordered s last ps ≡ true → (k : ℕ) → k < t .slots
     → (b : ℕ) → b ≡ t .shared + length (ofTag 6 s ps) + t .inits
     → getD (wordsFrom s ps t w ws) (slotOf t k) 0 ≡ initWord (initsIn s ps) b k (getD ws (slotOf t k) 0)
 unfolding wordsFrom ofTag tablesAfter

@@ -11,9 +11,9 @@ use Rattle.words.specs.Layout.{putN}
 use Rattle.definition.specs.Module.{flag, signedParams, initOf}
 use Rattle.layout.specs.declared.Tables.{Tables}
 use Rattle.layout.specs.declared.Chunk.{Chunk}
-use Rattle.layout.specs.Layout.{numbersAt}
+use Rattle.layout.specs.Layout.{numbersAt, rowField, wordCount, wordSuspends, headWords}
 use Rattle.layout.specs.Indexed.{bit}
-use Rattle.index_fill.specs.declared.model.Work.{Work}
+use Rattle.index_fill.specs.declared.model.FillState.{FillState}
 
 -- ---- before the first field
 unfoldable pub firstTables : List ℕ → ℕ → Tables
@@ -38,16 +38,16 @@ firstTables s queue =
 
 -- the first free word: behind the cells of the chunks' numbers and of the slots
 abbrev pub areas : Tables → ℕ
-areas t = 64 + 16 * (t .chunks + t .slots)
+areas t = headWords + 16 * (t .chunks + t .slots)
 
-unfoldable pub firstWork : Tables → Work
+unfoldable pub firstWork : Tables → FillState
 firstWork t = record { seen = 0; numbers = 0; instrs = 0; free = areas t; size = 0 }
 
 -- ---- tags 2 to 4: the chunks' numbers and rows
-abbrev pub paramsIn : List ℕ → ℕ → Tables → Work → ℕ
+abbrev pub paramsIn : List ℕ → ℕ → Tables → FillState → ℕ
 paramsIn s p t w = signedParams s p (ltb (w .seen) (t .signatures))
 
-unfoldable pub numbersOf : List ℕ → ℕ → Tables → Work → Chunk
+unfoldable pub numbersOf : List ℕ → ℕ → Tables → FillState → Chunk
 numbersOf s p t w =
     let h = chunkOf s p in
     record {
@@ -78,10 +78,10 @@ numberWords c =
     ∷ bit (c .streams)
     ∷ []
 
-unfoldable pub chunkWords : List ℕ → ℕ → Tables → Work → List ℕ → List ℕ
+unfoldable pub chunkWords : List ℕ → ℕ → Tables → FillState → List ℕ → List ℕ
 chunkWords s p t w ws = putN ws (numbersAt (w .seen)) (numberWords (numbersOf s p t w)) 10
 
-unfoldable pub chunkWork : List ℕ → ℕ → Tables → Work → Work
+unfoldable pub chunkWork : List ℕ → ℕ → Tables → FillState → FillState
 chunkWork s p t w =
     record {
       seen = suc (w .seen);
@@ -92,29 +92,29 @@ chunkWork s p t w =
     }
 
 -- the place of the instruction's field stands in its row
-unfoldable pub instrWords : ℕ → Work → List ℕ → List ℕ
-instrWords p w ws = set (set ws (w .free + 1) p) (w .numbers + 2) (w .instrs + 1)
+unfoldable pub instrWords : ℕ → FillState → List ℕ → List ℕ
+instrWords p w ws = set (set ws (w .free + rowField) p) (w .numbers + wordCount) (w .instrs + 1)
 
-unfoldable pub instrWork : Work → Work
+unfoldable pub instrWork : FillState → FillState
 instrWork w =
     record { seen = w .seen; numbers = w .numbers; instrs = w .instrs + 1; free = w .free + w .size; size = w .size }
 
 -- a chunk with a dialogue site suspends
-unfoldable pub siteWords : Work → List ℕ → List ℕ
-siteWords w ws = set ws (w .numbers + 6) 1
+unfoldable pub siteWords : FillState → List ℕ → List ℕ
+siteWords w ws = set ws (w .numbers + wordSuspends) 1
 
-unfoldable pub codeWords : ℕ → List ℕ → ℕ → Tables → Work → List ℕ → List ℕ
+unfoldable pub codeWords : ℕ → List ℕ → ℕ → Tables → FillState → List ℕ → List ℕ
 codeWords tag s p t w ws =
     cond (eqb tag 2) (chunkWords s p t w ws)
     (cond (eqb tag 3) (instrWords p w ws)
     (cond (eqb tag 4) (siteWords w ws) ws))
 
-unfoldable pub codeWork : ℕ → List ℕ → ℕ → Tables → Work → Work
+unfoldable pub codeWork : ℕ → List ℕ → ℕ → Tables → FillState → FillState
 codeWork tag s p t w = cond (eqb tag 2) (chunkWork s p t w) (cond (eqb tag 3) (instrWork w) w)
 
 -- ---- tags 7 and 8: the slots
 abbrev pub slotOf : Tables → ℕ → ℕ
-slotOf t n = 64 + 16 * t .chunks + 16 * n
+slotOf t n = headWords + 16 * t .chunks + 16 * n
 
 -- the mark of a placement stands above the writes of a round
 unfoldable pub markWords : Tables → ℕ → List ℕ → List ℕ
@@ -155,10 +155,10 @@ tablesAfter tag s p t =
     }
 
 -- ---- a field, and all from here on
-unfoldable pub wordsAfter : List ℕ → ℕ → Tables → Work → List ℕ → List ℕ
+unfoldable pub wordsAfter : List ℕ → ℕ → Tables → FillState → List ℕ → List ℕ
 wordsAfter s p t w ws = slotWords (tagAt s p) s p t (codeWords (tagAt s p) s p t w ws)
 
-unfoldable pub wordsFrom : List ℕ → List ℕ → Tables → Work → List ℕ → List ℕ
+unfoldable pub wordsFrom : List ℕ → List ℕ → Tables → FillState → List ℕ → List ℕ
 wordsFrom s [] t w ws = ws
 wordsFrom s (p ∷ ps) t w ws =
     wordsFrom s ps (tablesAfter (tagAt s p) s p t) (codeWork (tagAt s p) s p t w) (wordsAfter s p t w ws)

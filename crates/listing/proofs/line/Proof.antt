@@ -1,5 +1,5 @@
 -- `listing::line` meets its contract.
-use Rattle.listing.specs.Listing.{lineAt}
+use Rattle.listing.specs.Listing.{fieldLine}
 use Rattle.description.specs.Fields.{tagAt}
 use mathlib.Core.Path.{sym, _∙_}
 use borrow.Author.Tests.{ne-eqb}
@@ -33,32 +33,32 @@ same-length : tie.Need-same-length
 same-length c = search needs
 
 returns : tie.Need-returns
-unfolding lineAt tagAt
+unfolding fieldLine tagAt
 returns c = rw (sym (c .before .before .before .before .before .before .u8-at .ensures) ∙ c .before .before .before .before .before .match .keys1, ← c .before .before .before .u32-at .ensures) (c .before .before .accepted .ensures)
 
 same-length-2 : tie.Need-same-length-2
 same-length-2 c = search needs
 
 returns-2 : tie.Need-returns-2
-unfolding lineAt tagAt
+unfolding fieldLine tagAt
 returns-2 c = rw (sym (c .before .before .before .before .before .u8-at .ensures) ∙ c .before .before .before .before .match .keys2) (c .before .before .recorded .ensures)
 
 same-length-3 : tie.Need-same-length-3
 same-length-3 c = search needs
 
 returns-3 : tie.Need-returns-3
-unfolding lineAt tagAt
+unfolding fieldLine tagAt
 returns-3 c = rw (sym (c .before .before .before .before .before .u8-at .ensures) ∙ c .before .before .before .before .match .keys3) (c .before .before .inspection .ensures)
 
 same-length-4 : tie.Need-same-length-4
 same-length-4 c = search needs
 
 returns-4 : tie.Need-returns-4
-unfolding lineAt tagAt
+unfolding fieldLine tagAt
 returns-4 c = rw (sym (c .before .before .before .before .before .u8-at .ensures) ∙ c .before .before .before .before .match .keys4) (c .before .before .branch .ensures)
 
 returns-5 : tie.Need-returns-5
-unfolding lineAt tagAt
+unfolding fieldLine tagAt
 returns-5 c =
     let r = c .match .rest in
     rw (← c .before .u8-at .ensures, ne-eqb _ _ (r .0 .0 .0 .1), ne-eqb _ _ (r .0 .0 .1), ne-eqb _ _ (r .0 .1), ne-eqb _ _ (r .1))

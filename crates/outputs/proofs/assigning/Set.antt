@@ -20,10 +20,10 @@ use Rattle.definition.specs.Outputs.{Visit, noCell, instr, withOrigin, replySha
 use Rattle.form_laws.specs.Good.{chunkNo}
 use Rattle.layout.specs.declared.Chunk.{Chunk as ChunkNumbers}
 use Rattle.layout.specs.Indexed.{chunkAt}
-use Rattle.visit.specs.declared.Visit.{Visit as Look}
+use Rattle.visit.specs.declared.RowVisit.{RowVisit}
 use Rattle.visit.specs.Held.{Looking, argsIn, visitIn}
 use Rattle.visit.proofs.Visits.{args-are}
-use Rattle.row_join.specs.places.Arrive.{nowhere}
+use Rattle.row_join.specs.places.Arrive.{noLocal}
 use Rattle.row_join.specs.declared.joining.SetLocal.{SetLocal}
 use Rattle.row_join.specs.joining.Met.{SetAs}
 use Rattle.visit.proofs.operands.Parts.{ins-is}
@@ -34,7 +34,7 @@ pub set-first : (c : Cell) (r : SetLocal) → r .local ≡ 0 → r .cell ≡ c �
 unfolding SetAs
 set-first c r l k = (l, k, λ z. omega arith)
 
-pub set-none : (r : SetLocal) → r .local ≡ nowhere → SetAs none r
+pub set-none : (r : SetLocal) → r .local ≡ noLocal → SetAs none r
 unfolding SetAs
 set-none r l = l
 
@@ -42,7 +42,7 @@ set-none r l = l
 pub set-told : (v : Visit) (r : SetLocal) {a b : Acts} → a ≡ b → SetAs (setting v b) r → SetAs (setting v a) r
 set-told v r e h = rw e h
 
-module _ (s ws : List ℕ) (v : Look) (x : Looking s ws v) (r : SetLocal) where
+module _ (s ws : List ℕ) (v : RowVisit) (x : Looking s ws v) (r : SetLocal) where
   pub set-value : v .rule .acts ≡ SetsLocal → r .local ≡ v .ins .a % 65536
       → r .cell ≡ withOrigin (invalidatedCell (getD (argsIn ws v) 0 noCell) (v .ins .a % 65536)) Nowhere
       → SetAs (setting (visitIn s ws v) SetsLocal) r

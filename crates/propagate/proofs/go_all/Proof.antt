@@ -2,7 +2,6 @@
 use denote.Ref.{now}
 use native.Mathlib.Omega.{arith}
 use Rattle.visit.proofs.Visits.{looking-standing}
-use Rattle.propagate.proofs.Turns.{stands, given}
 use Rattle.propagate.proofs.Twice.{no-ways, one-way, two-stop, stands-after, two-ways}
 use borrow.Author.Needs.{needs}
 use Rattle.propagate.proofs.go_all.Statement.{statement}
@@ -11,12 +10,12 @@ use Rattle.propagate.proofs.go_all.Tie as tie
 operand-requires : tie.Need-operand-requires
 operand-requires c κs =
     let a = c .before .before .before .args in
-    (looking-standing (now (a .s)) (now (a .ws)) (a .v) (c .before .before .before .pre .0), omega arith)
+    (looking-standing (now (a .s)) (now (a .ws)) (a .v) (c .before .before .before .pre .looking), omega arith)
 
 ways-of-requires : tie.Need-ways-of-requires
 ways-of-requires c κs =
     let a = c .before .before .before .before .before .args in
-    let k = c .before .before .before .before .before .pre .0 in
+    let k = c .before .before .before .before .before .pre .looking in
     omega (arith, k .at, k .indexed .good .eachChunk (a .v .chunk) (k .chunk) .code)
 
 enum-told : tie.Need-enum-told
@@ -43,12 +42,11 @@ enum-known-q c = search needs
 go-requires-3 : tie.Need-go-requires-3
 go-requires-3 c κs =
     let a = c .before .before .before .before .before .before .before .before .before .before .before .before .before .before .before .before .before .args in
-    let x = stands (now (a .s)) (now (a .ws)) (a .t) (a .ch) (a .v) (a .l) (a .q) (c .before .before .before .before .before .before .before .before .before .before .before .before .before .before .before .before .before .pre) in
+    let x = c .before .before .before .before .before .before .before .before .before .before .before .before .before .before .before .before .before .pre in
     let g = c .before .before .before .before .before .before .go2 in
     let k = c .before .before .before .before .before .before .before .before .before .next .given in
     let r = c .before .before .q .given in
-    given (now (a .s)) (g .last .1 .0) (a .t) (a .ch) (a .v) (a .l) (r .0 .0)
-    (stands-after (now (a .s)) (now (a .ws)) (a .t) (a .ch) (a .v) (a .l) (a .q) x (c .before .before .before .before .before .before .before .before .before .before .before .before .before .operand .result) (c .before .before .before .before .before .before .before .before .before .before .before .before .before .operand .ensures) (c .before .before .before .before .before .before .before .before .before .before .before .ways-of .result) (c .before .before .before .before .before .before .before .before .before .before .before .ways-of .ensures) (k .0 .0) (k .0 .1 .0) (k .1) (g .last .1 .0) (r .0 .0) (rw (r .1) at (g .ensures .0)) (g .ensures .1))
+    stands-after (now (a .s)) (now (a .ws)) (a .t) (a .ch) (a .v) (a .l) (a .q) x (c .before .before .before .before .before .before .before .before .before .before .before .before .before .operand .result) (c .before .before .before .before .before .before .before .before .before .before .before .before .before .operand .ensures) (c .before .before .before .before .before .before .before .before .before .before .before .ways-of .result) (c .before .before .before .before .before .before .before .before .before .before .before .ways-of .ensures) (k .0 .0) (k .0 .1 .0) (k .1) (g .last .1 .0) (r .0 .0) (rw (r .1) at (g .ensures .0)) (g .ensures .1)
 
 same-length : tie.Need-same-length
 same-length c = search needs
@@ -56,7 +54,7 @@ same-length c = search needs
 returns : tie.Need-returns
 returns c =
     let a = c .before .before .before .before .before .before .before .before .args in
-    let x = stands (now (a .s)) (now (a .ws)) (a .t) (a .ch) (a .v) (a .l) (a .q) (c .before .before .before .before .before .before .before .before .pre) in
+    let x = c .before .before .before .before .before .before .before .before .pre in
     no-ways (now (a .s)) (now (a .ws)) (a .t) (a .ch) (a .v) (a .l) (a .q) x (c .before .before .before .before .operand .result) (c .before .before .before .before .operand .ensures) (c .before .before .ways-of .result) (c .before .before .ways-of .ensures) (c .enum-told .given .1)
 
 same-length-2 : tie.Need-same-length-2
@@ -65,7 +63,7 @@ same-length-2 c = search needs
 returns-2 : tie.Need-returns-2
 returns-2 c =
     let a = c .before .before .before .before .before .before .before .before .before .before .before .before .before .args in
-    let x = stands (now (a .s)) (now (a .ws)) (a .t) (a .ch) (a .v) (a .l) (a .q) (c .before .before .before .before .before .before .before .before .before .before .before .before .before .pre) in
+    let x = c .before .before .before .before .before .before .before .before .before .before .before .before .before .pre in
     let g = c .before .before .go in
     let k = c .before .before .before .before .before .to .given in
     one-way (now (a .s)) (now (a .ws)) (a .t) (a .ch) (a .v) (a .l) (a .q) x (c .before .before .before .before .before .before .before .before .before .operand .result) (c .before .before .before .before .before .before .before .before .before .operand .ensures) (c .before .before .before .before .before .before .before .ways-of .result) (c .before .before .before .before .before .before .before .ways-of .ensures) (k .0 .0) (k .1) (g .last .1 .0) (g .result) (g .ensures .0)
@@ -76,7 +74,7 @@ same-length-3 c = search needs
 returns-3 : tie.Need-returns-3
 returns-3 c =
     let a = c .before .before .before .before .before .before .before .before .before .before .before .before .before .before .before .before .args in
-    let x = stands (now (a .s)) (now (a .ws)) (a .t) (a .ch) (a .v) (a .l) (a .q) (c .before .before .before .before .before .before .before .before .before .before .before .before .before .before .before .before .pre) in
+    let x = c .before .before .before .before .before .before .before .before .before .before .before .before .before .before .before .before .pre in
     let g = c .before .before .before .before .before .go2 in
     let k = c .before .before .before .before .before .before .before .before .next .given in
     let r = c .before .n .given in
@@ -88,7 +86,7 @@ same-length-4 c = search needs
 returns-4 : tie.Need-returns-4
 returns-4 c =
     let a = c .before .before .before .before .before .before .before .before .before .before .before .before .before .before .before .before .before .before .before .before .args in
-    let x = stands (now (a .s)) (now (a .ws)) (a .t) (a .ch) (a .v) (a .l) (a .q) (c .before .before .before .before .before .before .before .before .before .before .before .before .before .before .before .before .before .before .before .before .pre) in
+    let x = c .before .before .before .before .before .before .before .before .before .before .before .before .before .before .before .before .before .before .before .before .pre in
     let g = c .before .before .before .before .before .before .before .before .before .go2 in
     let k = c .before .before .before .before .before .before .before .before .before .before .before .before .next .given in
     let r = c .before .before .before .before .before .q .given in

@@ -25,8 +25,8 @@ returns c = rw (← c .before .before .before .load .ensures) (c .before .before
 load-requires-2 : tie.Need-load-requires-2
 load-requires-2 c κs = search needs
 
-put-still-requires : tie.Need-put-still-requires
-put-still-requires c κs =
+put-flowless-requires : tie.Need-put-flowless-requires
+put-flowless-requires c κs =
     let a = c .before .before .before .before .before .before .args in
     (search needs, ap (λ (x : Cell). x .flow) (c .load2 .ensures) ∙ flow-none (now (a .ws)) (a .word) (sym (c .before .before .before .has-flow .ensures) ∙ c .before .before .if1 .left))
 
@@ -34,7 +34,7 @@ same-length-2 : tie.Need-same-length-2
 same-length-2 c = search needs
 
 returns-2 : tie.Need-returns-2
-returns-2 c = rw (← c .before .before .before .load2 .ensures) (c .before .before .put-still .ensures)
+returns-2 c = rw (← c .before .before .before .load2 .ensures) (c .before .before .put-flowless .ensures)
 
 pub put-stored-spec : {M : Type 1} → statement M
 put-stored-spec =
@@ -46,6 +46,6 @@ put-stored-spec =
     same-length
     returns
     load-requires-2
-    put-still-requires
+    put-flowless-requires
     same-length-2
     returns-2)

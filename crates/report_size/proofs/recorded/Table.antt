@@ -18,6 +18,7 @@ use Rattle.ops.specs.Ops.{rules, noRule, ruleOf}
 use Rattle.definition.specs.Report.{saysFalse, isTest}
 use Rattle.join_laws.proofs.Flows.{bool-sound}
 use Rattle.rule_laws.proofs.Table.{every-rule}
+use Rattle.ops.specs.Numbers.{opBreakIf, opIf, opIsEnum, opIsStruct}
 
 abbrev inspects : Others → Bool
 inspects (Tested k) = true
@@ -29,10 +30,10 @@ inspects Status = false
 
 -- 40 and 41 inspect, 21 and 27 test
 abbrev pub inspector : ℕ → Bool
-inspector op = eqb op 40 || eqb op 41
+inspector op = eqb op opIsEnum || eqb op opIsStruct
 
 abbrev pub tester : ℕ → Bool
-tester op = eqb op 21 || eqb op 27
+tester op = eqb op opIf || eqb op opBreakIf
 
 abbrev told : ℕ → Rule → Bool
 told op r = sameBool (inspects (r .others)) (inspector op) && sameBool (isTest (r .exit)) (tester op)
@@ -40,7 +41,7 @@ told op r = sameBool (inspects (r .others)) (inspector op) && sameBool (isTest (
 none-told : (op : ℕ) → 66 ≤ op → told op noRule ≡ true
 unfolding isTest
 none-told op h =
-    rw (ne-eqb op 40 (λ e. omega arith), ne-eqb op 41 (λ e. omega arith), ne-eqb op 21 (λ e. omega arith), ne-eqb op 27 (λ e. omega arith)) refl
+    rw (ne-eqb op opIsEnum (λ e. omega arith), ne-eqb op opIsStruct (λ e. omega arith), ne-eqb op opIf (λ e. omega arith), ne-eqb op opBreakIf (λ e. omega arith)) refl
 
 table-told : (op : ℕ) → told op (ruleOf op) ≡ true
 unfolding rules isTest
@@ -63,14 +64,14 @@ silent Status c h = refl
 
 -- what 40 and 41 ask for
 abbrev pub inspected : ℕ → Mask
-inspected op = cond (eqb op 40) ENUM STRUCT
+inspected op = cond (eqb op opIsEnum) ENUM STRUCT
 
 pub says-false-by : (op : ℕ) (c : Cell) → saysFalse (ruleOf op .others) c ≡ (inspector op && not (has (c .mask) (inspected op)))
 unfolding saysFalse ruleOf rules
-says-false-by op c = go (eqb op 40) (eqb op 41) refl refl
+says-false-by op c = go (eqb op opIsEnum) (eqb op opIsStruct) refl refl
   where
-    go : (a b : Bool) → eqb op 40 ≡ a → eqb op 41 ≡ b
+    go : (a b : Bool) → eqb op opIsEnum ≡ a → eqb op opIsStruct ≡ b
         → saysFalse (ruleOf op .others) c ≡ ((a || b) && not (has (c .mask) (cond a ENUM STRUCT)))
-    go true b p q = ap (λ (k : ℕ). saysFalse (ruleOf k .others) c) (eqb-true op 40 p)
-    go false true p q = ap (λ (k : ℕ). saysFalse (ruleOf k .others) c) (eqb-true op 41 q)
+    go true b p q = ap (λ (k : ℕ). saysFalse (ruleOf k .others) c) (eqb-true op opIsEnum p)
+    go false true p q = ap (λ (k : ℕ). saysFalse (ruleOf k .others) c) (eqb-true op opIsStruct q)
     go false false p q = silent (ruleOf op .others) c (inspects-by op ∙ rw (p, q))

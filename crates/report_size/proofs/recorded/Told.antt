@@ -11,7 +11,7 @@ use Rattle.masks.specs.Names.{FALSE, TRUE}
 use Rattle.words.specs.Layout.{cellAt}
 use Rattle.words.specs.Rows.{cellsAt}
 use Rattle.definition.specs.Start.{last}
-use Rattle.layout.specs.Layout.{placeAt}
+use Rattle.layout.specs.Layout.{placeAt, stackAt}
 use Rattle.report_size.proofs.recorded.Table.{inspector, tester, inspected, tests-by, says-false-by}
 use Rattle.report_size.specs.recorded.Told.{decidedIn, falseIn, recorded, topIn}
 
@@ -27,13 +27,13 @@ pub top-is : (ws : List ℕ) (row h : ℕ) → h ≡ getD ws row 0 → 2 ≤ h �
 unfolding topIn
 top-is ws row h e l =
     let z : getD ws row 0 - 1 ≡ suc (h - 2) = omega arith in
-    sym (ap (λ (n : ℕ). last (cellsAt ws (row + 96) n)) z ∙ last-cell ws (row + 96) (h - 2))
+    sym (ap (λ (n : ℕ). last (cellsAt ws (stackAt row) n)) z ∙ last-cell ws (stackAt row) (h - 2))
 
 pub top-none : (ws : List ℕ) (row h : ℕ) → h ≡ getD ws row 0 → h < 2 → last [] ≡ topIn ws row
 unfolding topIn cellsAt
 top-none ws row h e l =
     let z : getD ws row 0 - 1 ≡ 0 = omega arith in
-    sym (ap (λ (n : ℕ). last (cellsAt ws (row + 96) n)) z)
+    sym (ap (λ (n : ℕ). last (cellsAt ws (stackAt row) n)) z)
 
 -- ---- as the code finds it: by the number of the instruction
 and-then : (a b c : Bool) → ((a && b) && c) ≡ (a && (b && c))

@@ -4,7 +4,6 @@ use denote.Ref.{now}
 use native.Mathlib.Omega.{arith}
 use borrow.Author.Needs.{needs}
 use mathlib.Core.Path.{_≡_, ap}
-use lib.ListN.{length}
 use Rattle.le.specs.Wrote.{Wrote}
 use Rattle.le.proofs.Laws.{same-length as same-long}
 use Rattle.report_size.specs.Span.{span}
@@ -16,7 +15,7 @@ use Rattle.report_write.proofs.put_chunk.Statement.{statement}
 use Rattle.report_write.proofs.put_chunk.Tie as tie
 
 abbrev Inv-loop : tie.InvT-loop
-Inv-loop s ws buf₀ at t c tag n i₀ to₀ buf i to = (i ≤ n) × (n ≡ recordable s c) × Wrote buf₀ at (length (span (addedFor s ws tag c) 0 i)) (span (addedFor s ws tag c) 0 i) buf to
+Inv-loop s ws buf₀ at t c tag n i₀ to₀ buf i to = (i ≤ n) × (n ≡ recordable s c) × Wrote buf₀ at (span (addedFor s ws tag c) 0 i) buf to
 
 abbrev μ-loop : tie.MeasureT-loop
 μ-loop s ws buf₀ at t c tag n i₀ to₀ buf i to = n - i

@@ -15,7 +15,7 @@ use Rattle.report_write.proofs.put_chunks.Statement.{statement}
 use Rattle.report_write.proofs.put_chunks.Tie as tie
 
 abbrev Inv-loop : tie.InvT-loop
-Inv-loop s ws buf₀ at t tag c₀ to₀ buf c to = (c ≤ t .chunks) × Wrote buf₀ at (length (span (chunkFor s ws tag) 0 c)) (span (chunkFor s ws tag) 0 c) buf to
+Inv-loop s ws buf₀ at t tag c₀ to₀ buf c to = (c ≤ t .chunks) × Wrote buf₀ at (span (chunkFor s ws tag) 0 c) buf to
 
 abbrev μ-loop : tie.MeasureT-loop
 μ-loop s ws buf₀ at t tag c₀ to₀ buf c to = t .chunks - c

@@ -3,7 +3,6 @@ use Prim.Native.Nat.{_-_, _≤_}
 use denote.Ref.{now}
 use native.Mathlib.Omega.{arith}
 use mathlib.Core.Path.{_≡_, ap}
-use lib.ListN.{length}
 use Rattle.le.specs.Wrote.{Wrote}
 use Rattle.le.proofs.Laws.{same-length as same-long}
 use Rattle.report_size.specs.Span.{span}
@@ -14,7 +13,7 @@ use Rattle.report_write.proofs.put_signatures.Statement.{statement}
 use Rattle.report_write.proofs.put_signatures.Tie as tie
 
 abbrev Inv-loop : tie.InvT-loop
-Inv-loop s ws buf₀ at t c₀ to₀ buf c to = (c ≤ t .signatures) × Wrote buf₀ at (length (span (signatureAt s ws) 0 c)) (span (signatureAt s ws) 0 c) buf to
+Inv-loop s ws buf₀ at t c₀ to₀ buf c to = (c ≤ t .signatures) × Wrote buf₀ at (span (signatureAt s ws) 0 c) buf to
 
 abbrev μ-loop : tie.MeasureT-loop
 μ-loop s ws buf₀ at t c₀ to₀ buf c to = t .signatures - c

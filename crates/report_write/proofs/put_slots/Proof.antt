@@ -3,7 +3,6 @@ use mathlib.Core.Path.{_≡_, ap}
 use Prim.Native.Nat.{_-_, _≤_}
 use denote.Ref.{now}
 use native.Mathlib.Omega.{arith}
-use lib.ListN.{length}
 use Rattle.le.specs.Wrote.{Wrote}
 use Rattle.le.proofs.Laws.{same-length as same-long}
 use Rattle.report_size.specs.Span.{span}
@@ -13,7 +12,7 @@ use Rattle.report_write.proofs.put_slots.Statement.{statement}
 use Rattle.report_write.proofs.put_slots.Tie as tie
 
 abbrev Inv-loop : tie.InvT-loop
-Inv-loop ws buf₀ at t k₀ to₀ buf k to = (k ≤ t .slots) × Wrote buf₀ at (length (span (slotFrom ws (t .chunks)) 0 k)) (span (slotFrom ws (t .chunks)) 0 k) buf to
+Inv-loop ws buf₀ at t k₀ to₀ buf k to = (k ≤ t .slots) × Wrote buf₀ at (span (slotFrom ws (t .chunks)) 0 k) buf to
 
 abbrev μ-loop : tie.MeasureT-loop
 μ-loop ws buf₀ at t k₀ to₀ buf k to = t .slots - k

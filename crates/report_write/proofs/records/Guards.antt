@@ -14,7 +14,7 @@ use Rattle.definition.specs.declared.Check.the-variants.{Fine, Guard, Unproven}
 use Rattle.definition.specs.Module.{row}
 use Rattle.definition.specs.Wants.{Guarded, guardOf, guardsIn, guards}
 use Rattle.definition.specs.Report.{guardsBytes}
-use Rattle.visit.specs.declared.Visit.{Visit as Look}
+use Rattle.visit.specs.declared.RowVisit.{RowVisit}
 use Rattle.visit.specs.Held.{visitIn}
 use Rattle.checks.specs.asked.Proving.{Asking, placesBy, foundIn, askedFrom, askedIn}
 use Rattle.checks.proofs.asked.Checked.{guards-are}
@@ -38,7 +38,7 @@ unfolding guardsBytes guardOf
 unproven-bytes p = refl
 
 -- ---- all of them
-unfoldable pub guardAt : List ℕ → List ℕ → Look → Want → ℕ → List ℕ
+unfoldable pub guardAt : List ℕ → List ℕ → RowVisit → Want → ℕ → List ℕ
 guardAt s ws v w p = guardsBytes (guardOf p (foundIn s ws v w p) [])
 
 one-guard : (p : ℕ) (c : Check) (gs : List Guarded) → guardsBytes (guardOf p c gs) ≡ guardsBytes (guardOf p c []) ++ guardsBytes gs
@@ -49,7 +49,7 @@ one-guard p (Guard m) gs =
     ap (λ (l : List ℕ). le16 p ++ l) (ap (λ (l : List ℕ). l ++ guardsBytes gs) (sym (append-nil (le16 (m .bits)))))
     ∙ sym (append-assoc (le16 p) (le16 (m .bits) ++ []) (guardsBytes gs))
 
-module _ (s ws : List ℕ) (v : Look) (w : Want) where
+module _ (s ws : List ℕ) (v : RowVisit) (w : Want) where
   guards-spread : (i n : ℕ) → guardsBytes (guardsIn (row (λ k. record { place = k; found = foundIn s ws v w k }) i n)) ≡ spread (guardAt s ws v w) i n
   unfolding guardsIn row spread guardAt guardsBytes
   guards-spread i zero = refl
@@ -64,7 +64,7 @@ module _ (s ws : List ℕ) (v : Look) (w : Want) where
       sym (ap guardsBytes (guards-are s ws v w a) ∙ guards-spread i (placesBy v (w .ask) .end - i))
 
 -- the places end at the height
-pub places-low : (v : Look) (a : Ask) → v .start ≤ v .height → placesBy v a .end ≤ v .height
+pub places-low : (v : RowVisit) (a : Ask) → v .start ≤ v .height → placesBy v a .end ≤ v .height
 unfolding placesBy
 places-low v Below h = h
 places-low v Nothing h = omega arith

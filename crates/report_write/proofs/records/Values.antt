@@ -17,12 +17,12 @@ use Rattle.definition.specs.Report.{placed, recordFrom, field, cellBytes, cells
 use Rattle.form_laws.specs.Good.{chunkNo}
 use Rattle.layout.specs.declared.Tables.{Tables}
 use Rattle.layout.specs.declared.Chunk.{Chunk as ChunkNumbers}
-use Rattle.layout.specs.Layout.{inputAt, resultAt}
+use Rattle.layout.specs.Layout.{inputAt, resultAt, localsAt, placeAt, stackAt}
 use Rattle.layout.specs.Indexed.{Indexed, chunkAt}
 use Rattle.layout.proofs.Apart.{result-in}
 use Rattle.layout.proofs.Read.{row-small, count-is, params-is, locals-is, stack-is}
 use Rattle.report_laws.proofs.Back.{recordIn, guards-long}
-use Rattle.visit.specs.declared.Visit.{Visit as Look}
+use Rattle.visit.specs.declared.RowVisit.{RowVisit}
 use Rattle.visit.specs.Held.{Looking, knownIn, stateOf, visitIn}
 use Rattle.visit.proofs.Visits.{row-there, looking-standing, below-long}
 use Rattle.run_state.specs.Course.{knownAs}
@@ -40,7 +40,7 @@ use Rattle.report_write.specs.records.Values.{valuesIn}
 abbrev build : ℕ → ℕ → ℕ → ℕ → ℕ → ℕ → ℕ → List ℕ → List ℕ
 build len c i h l g k rest = 19 ∷ (le16 len ++ (le16 c ++ (le16 i ++ ((le16 h ++ (le16 l ++ (le16 g ++ le16 k))) ++ rest))))
 
-module _ (s ws : List ℕ) (v : Look) (x : Looking s ws v) where
+module _ (s ws : List ℕ) (v : RowVisit) (x : Looking s ws v) where
   outputs-same : placed (length (visitIn s ws v .below)) (row (output (outputs (visitIn s ws v))) 0 (instr (visitIn s ws v) .given))
       ≡ placed (v .start) (row (output (outputs (visitIn s ws v))) 0 (v .ins .given))
   outputs-same =
@@ -60,14 +60,14 @@ module _ (s ws : List ℕ) (v : Look) (x : Looking s ws v) where
       let u = visitIn s ws v in
       let l = locals-is s ws (v .chunk) ch e in
       let e₁ : length (recordIn (visitRecord s ws v)) ≡ len = omega (arith, contents-long s ws v x, l, q, h) in
-      let e₂ = cellsAt-length ws (v .row + 96) (v .height) in
-      let e₃ = cellsAt-length ws (v .row + 96 + 16 * c .stack) (c .locals) ∙ sym l in
+      let e₂ = cellsAt-length ws (stackAt (v .row)) (v .height) in
+      let e₃ = cellsAt-length ws (localsAt (v .row) (c .stack)) (c .locals) ∙ sym l in
       let e₄ = ap length outputs-same ∙ placed-many (output (outputs u)) (v .start) 0 (v .ins .given) in
       let e₅ : length (guards u) ≡ k = sym q in
       sym (record-is s ws v x known
       ∙ (λ j. build (e₁ j) (number j) (v .at) (e₂ j) (e₃ j) (e₄ j) (e₅ j)
-      (cellsBytes (cellsAt ws (v .row + 96) (v .height))
-      ++ (cellsBytes (cellsAt ws (v .row + 96 + 16 * c .stack) (c .locals)) ++ (outputsBytes (outputs-same j) ++ guardsBytes (guards u))))))
+      (cellsBytes (cellsAt ws (stackAt (v .row)) (v .height))
+      ++ (cellsBytes (cellsAt ws (localsAt (v .row) (c .stack)) (c .locals)) ++ (outputsBytes (outputs-same j) ++ guardsBytes (guards u))))))
 
   -- how long its values are
   pub values-long : length (valuesIn s ws v)
@@ -76,8 +76,8 @@ module _ (s ws : List ℕ) (v : Look) (x : Looking s ws v) where
   values-long =
       let c = chunkNo (moduleOf s) (v .chunk) in
       let f = output (outputs (visitIn s ws v)) in
-      let st = cellsBytes (cellsAt ws (v .row + 96) (v .height)) in
-      let ls = cellsBytes (cellsAt ws (v .row + 96 + 16 * c .stack) (c .locals)) in
+      let st = cellsBytes (cellsAt ws (stackAt (v .row)) (v .height)) in
+      let ls = cellsBytes (cellsAt ws (localsAt (v .row) (c .stack)) (c .locals)) in
       let os = outputsBytes (placed (v .start) (row f 0 (v .ins .given))) in
       let gs = guardsBytes (guards (visitIn s ws v)) in
       omega (
@@ -85,8 +85,8 @@ module _ (s ws : List ℕ) (v : Look) (x : Looking s ws v) where
         length-append st (ls ++ (os ++ gs)),
         length-append ls (os ++ gs),
         length-append os gs,
-        cells-long ws (v .row + 96) (v .height),
-        cells-long ws (v .row + 96 + 16 * c .stack) (c .locals),
+        cells-long ws (stackAt (v .row)) (v .height),
+        cells-long ws (localsAt (v .row) (c .stack)) (c .locals),
         outputs-long f (looked-four s ws v x) (v .start) 0 (v .ins .given),
       )
 
@@ -104,8 +104,8 @@ module _ (s ws : List ℕ) (v : Look) (x : Looking s ws v) where
 
   -- its row has room for them, and its numbers are small
   pub values-room : (ch : ChunkNumbers) → ch ≡ chunkAt s ws (v .chunk)
-      → (v .row + 96 + 16 * v .height ≤ length ws) × (v .row + 96 + 16 * (ch .stack + ch .locals) ≤ length ws)
-      × (v .row + 96 + 16 * (ch .stack + ch .locals) < 4294967296) × (v .start + v .ins .given ≤ 65536)
+      → (placeAt (v .row) (v .height) ≤ length ws) × (placeAt (v .row) (ch .stack + ch .locals) ≤ length ws)
+      × (placeAt (v .row) (ch .stack + ch .locals) < 4294967296) × (v .start + v .ins .given ≤ 65536)
   values-room ch e =
       let d = looking-standing s ws v x in
       let r = row-there s ws v x in
@@ -120,15 +120,15 @@ module _ (s ws : List ℕ) (v : Look) (x : Looking s ws v) where
       )
 
 -- the writes of its values: stack, locals, outputs, guards
-module _ (s ws : List ℕ) (v : Look) (ch : ChunkNumbers) (e : ch ≡ chunkAt s ws (v .chunk)) where
-  pub stack-here : (p : ℕ) → p ≡ v .row + 96 + 16 * 0 → cellsBytes (cellsAt ws p (v .height)) ≡ cellsBytes (cellsAt ws (v .row + 96) (v .height))
-  stack-here p h = let z : p ≡ v .row + 96 = omega arith in ap (λ (a : ℕ). cellsBytes (cellsAt ws a (v .height))) z
+module _ (s ws : List ℕ) (v : RowVisit) (ch : ChunkNumbers) (e : ch ≡ chunkAt s ws (v .chunk)) where
+  pub stack-here : (p : ℕ) → p ≡ placeAt (v .row) 0 → cellsBytes (cellsAt ws p (v .height)) ≡ cellsBytes (cellsAt ws (stackAt (v .row)) (v .height))
+  stack-here p h = let z : p ≡ stackAt (v .row) = omega arith in ap (λ (a : ℕ). cellsBytes (cellsAt ws a (v .height))) z
 
-  pub locals-here : (p : ℕ) → p ≡ v .row + 96 + 16 * (ch .stack + 0)
+  pub locals-here : (p : ℕ) → p ≡ placeAt (v .row) (ch .stack + 0)
       → cellsBytes (cellsAt ws p (ch .locals))
-      ≡ cellsBytes (cellsAt ws (v .row + 96 + 16 * chunkNo (moduleOf s) (v .chunk) .stack) (chunkNo (moduleOf s) (v .chunk) .locals))
+      ≡ cellsBytes (cellsAt ws (localsAt (v .row) (chunkNo (moduleOf s) (v .chunk) .stack)) (chunkNo (moduleOf s) (v .chunk) .locals))
   locals-here p h =
-      let z : p ≡ v .row + 96 + 16 * chunkNo (moduleOf s) (v .chunk) .stack = omega (arith, stack-is s ws (v .chunk) ch e) in
+      let z : p ≡ localsAt (v .row) (chunkNo (moduleOf s) (v .chunk) .stack) = omega (arith, stack-is s ws (v .chunk) ch e) in
       ap₂ (λ (a n : ℕ). cellsBytes (cellsAt ws a n)) z (locals-is s ws (v .chunk) ch e)
 
 -- a chunk's numbers as they are read
@@ -145,7 +145,7 @@ small-here s ws c ch i x h = (
 )
 
 -- the record of the instruction i of the chunk c
-module _ (s ws : List ℕ) (t : Tables) (f : Finished s ws t) (c : ℕ) (ch : ChunkNumbers) (i : ℕ) (h : Here s ws c ch i) (v : Look) (x : Visits s ws c i v) where
+module _ (s ws : List ℕ) (t : Tables) (f : Finished s ws t) (c : ℕ) (ch : ChunkNumbers) (i : ℕ) (h : Here s ws c ch i) (v : RowVisit) (x : Visits s ws c i v) where
   pub record-made : (len k : ℕ) → k ≡ length (guards (visitIn s ws v)) → len ≡ 12 + 49 * (v .height + ch .locals) + 51 * v .ins .given + 4 * k
       → (19 ∷ le16 len) ++ ((le16 c ++ le16 i) ++ ((le16 (v .height) ++ (le16 (ch .locals) ++ (le16 (v .ins .given) ++ le16 k))) ++ valuesIn s ws v))
       ≡ recordAt s ws c i

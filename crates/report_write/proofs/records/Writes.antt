@@ -8,7 +8,7 @@ use lib.ListN.{length}
 use Rattle.widths.specs.declared.Width.the-variants.{Unknown as Wide}
 use Rattle.cells.specs.declared.Cell.{Cell}
 use Rattle.le.specs.Le.{le16}
-use Rattle.le.specs.Wrote.{put, Wrote}
+use Rattle.le.specs.Wrote.{put, Wrote, WroteN}
 use Rattle.le.proofs.Laws.{and-then, resize, same-length}
 use Rattle.words.specs.Layout.{cellAt}
 use Rattle.words.specs.Rows.{cellsAt}
@@ -23,30 +23,31 @@ use Rattle.report_size.proofs.Four.{four-at, four-long}
 use Rattle.report_size.specs.Adds.{bareAt}
 use Rattle.report_laws.proofs.Walk.{field-long}
 use Rattle.report_write.specs.records.Writes.{slotFrom}
+use Rattle.layout.specs.Layout.{headWords}
 
 -- nothing written
-pub wrote-none : (l : List ℕ) (at : ℕ) → Wrote l at 0 [] l at
+pub wrote-none : (l : List ℕ) (at : ℕ) → WroteN l at 0 [] l at
 unfolding put
 wrote-none l at = record { bytes = refl; size = refl; next = omega arith }
 
 -- a write by its bytes
-pub exact : {l l′ : List ℕ} {at r n : ℕ} {a : List ℕ} → Wrote l at n a l′ r → Wrote l at (length a) a l′ r
+pub exact : {l l′ : List ℕ} {at r n : ℕ} {a : List ℕ} → WroteN l at n a l′ r → Wrote l at a l′ r
 exact w = resize w (sym (w .size))
 
 -- the same bytes, said otherwise
-pub said-exact : {l l′ : List ℕ} {at r : ℕ} {a b : List ℕ} → Wrote l at (length a) a l′ r → a ≡ b → Wrote l at (length b) b l′ r
+pub said-exact : {l l′ : List ℕ} {at r : ℕ} {a b : List ℕ} → Wrote l at a l′ r → a ≡ b → Wrote l at b l′ r
 said-exact w e = exact (said w e)
 
 -- ---- a loop that writes what f gives at each number
 module _ (f : ℕ → List ℕ) (i : ℕ) (l : List ℕ) (at : ℕ) where
-  pub span-start : Wrote l at (length (span f i i)) (span f i i) l at
+  pub span-start : Wrote l at (span f i i) l at
   span-start = said-exact (wrote-none l at) (sym (span-none f i))
 
-  module _ (k : ℕ) (h : i ≤ k) (l₁ : List ℕ) (p : ℕ) (w : Wrote l at (length (span f i k)) (span f i k) l₁ p) where
+  module _ (k : ℕ) (h : i ≤ k) (l₁ : List ℕ) (p : ℕ) (w : Wrote l at (span f i k) l₁ p) where
     pub span-fits : (e : ℕ) → k < e → at + length (span f i e) ≤ length l → p + length (f k) ≤ length l₁
     span-fits e m r = omega (arith, w .next, span-room f i k e h m, same-length w)
 
-    pub span-turn : (l₂ : List ℕ) (r : ℕ) → Wrote l₁ p (length (f k)) (f k) l₂ r → Wrote l at (length (span f i (k + 1))) (span f i (k + 1)) l₂ r
+    pub span-turn : (l₂ : List ℕ) (r : ℕ) → Wrote l₁ p (f k) l₂ r → Wrote l at (span f i (k + 1)) l₂ r
     span-turn l₂ r v = exact (said (and-then w v) (sym (span-more f i k h)))
 
 -- ---- cells, one more
@@ -93,16 +94,16 @@ pub low16 : (n : ℕ) → n < 65536 → le16 (n % 65536) ≡ le16 n
 low16 n h = let e : n % 65536 ≡ n = omega arith in ap le16 e
 
 -- ---- a slot
-pub slot-bytes : (ws : List ℕ) (chunks k p : ℕ) (c : Cell) → p ≡ 64 + 16 * chunks + 16 * k → c ≡ cellAt ws p
+pub slot-bytes : (ws : List ℕ) (chunks k p : ℕ) (c : Cell) → p ≡ headWords + 16 * chunks + 16 * k → c ≡ cellAt ws p
     → (18 ∷ le16 49) ++ cellBytes (record { mask = c .mask; width = Wide; flow = c .flow }) ≡ slotFrom ws chunks k
 unfolding slotFrom slotBytes field
 slot-bytes ws chunks k p c e h =
     rw (h, e)
-    (ap (λ (n : ℕ). 18 ∷ (le16 n ++ cellBytes (bareAt ws (64 + 16 * chunks + 16 * k))))
-    (sym (four-long (bareAt ws (64 + 16 * chunks + 16 * k)) (four-at ws (64 + 16 * chunks + 16 * k)))))
+    (ap (λ (n : ℕ). 18 ∷ (le16 n ++ cellBytes (bareAt ws (headWords + 16 * chunks + 16 * k))))
+    (sym (four-long (bareAt ws (headWords + 16 * chunks + 16 * k)) (four-at ws (headWords + 16 * chunks + 16 * k)))))
 
 pub slot-long : (ws : List ℕ) (chunks k : ℕ) → length (slotFrom ws chunks k) ≡ 52
 unfolding slotFrom slotBytes
 slot-long ws chunks k =
-    let p = 64 + 16 * chunks + 16 * k in
+    let p = headWords + 16 * chunks + 16 * k in
     omega (arith, field-long 18 (cellBytes (bareAt ws p)), four-long (bareAt ws p) (four-at ws p))

@@ -15,7 +15,7 @@ use Rattle.words.specs.Layout.{cellAt}
 use Rattle.words.proofs.Laws.{cellAt-same}
 use Rattle.words.specs.Rows.{cellsAt}
 use Rattle.ring.specs.declared.Queue.{Queue}
-use Rattle.ring.specs.Ring.{Ready, capOf, queueOf, pushed, grown}
+use Rattle.ring.specs.Ring.{QueueReady, capOf, queueOf, pushed, grown}
 use Rattle.ring.proofs.Ring.{entries-push, push-below, length-pushed}
 use Rattle.definition.specs.Module.{Module, row, moduleOf}
 use Rattle.definition.specs.State.{State}
@@ -23,7 +23,7 @@ use Rattle.definition.specs.Start.{filled, start}
 use Rattle.form_laws.proofs.Each.{row-at}
 use Rattle.form_laws.specs.Good.{chunkNo, rowCells, wordsOf}
 use Rattle.layout.specs.declared.Chunk.{Chunk as ChunkNumbers}
-use Rattle.layout.specs.Layout.{areaOf, inputAt, rowsAt, rowAt, localAt}
+use Rattle.layout.specs.Layout.{areaOf, inputAt, rowsAt, rowAt, localAt, localsAt, stackAt, rowField}
 use Rattle.layout.specs.declared.Tables.{Tables}
 use Rattle.layout.specs.Indexed.{tablesOf, chunkAt}
 use Rattle.layout.proofs.Read.{row-known}
@@ -107,12 +107,12 @@ module _ (s ws : List ℕ) (c : ℕ) (p : Prepared s ws) (h : c < length (module
 
   -- the other words stay
   untouched : (j : ℕ) → j < wordsOf (moduleOf s) → ((i : ℕ) → i < length (chunkNo (moduleOf s) c .code) → j ≡ rowAt (moduleOf s) c i → ⊥)
-      → (j < rowsAt (moduleOf s) c + 96) ⊎ (rowsAt (moduleOf s) c + 16 * rowCells (chunkNo (moduleOf s) c) ≤ j) → getD v j 0 ≡ getD ws j 0
+      → (j < stackAt (rowsAt (moduleOf s) c)) ⊎ (rowsAt (moduleOf s) c + 16 * rowCells (chunkNo (moduleOf s) c) ≤ j) → getD v j 0 ≡ getD ws j 0
   unfolding chunkAt rowAt
   untouched j l d o =
       below j l ∙ raised-other j (λ e. d 0 code (e ∙ sym first-row)) ∙ y .out .word j (beside o) ∙ x .other j d
     where
-      beside : (j < rowsAt (moduleOf s) c + 96) ⊎ (rowsAt (moduleOf s) c + 16 * rowCells (chunkNo (moduleOf s) c) ≤ j)
+      beside : (j < stackAt (rowsAt (moduleOf s) c)) ⊎ (rowsAt (moduleOf s) c + 16 * rowCells (chunkNo (moduleOf s) c) ≤ j)
           → (j < localAt (rowsAt (moduleOf s) c) (chunkNo (moduleOf s) c .stack) 0)
           ⊎ (localAt (rowsAt (moduleOf s) c) (chunkNo (moduleOf s) c .stack) (chunkNo (moduleOf s) c .locals) ≤ j)
       beside (inl a) = inl (omega arith)
@@ -122,25 +122,25 @@ module _ (s ws : List ℕ) (c : ℕ) (p : Prepared s ws) (h : c < length (module
   under j q = untouched j (omega (arith, rows-in (moduleOf s) c h)) (λ k a e. omega (arith, rows-begin (moduleOf s) c k)) (inl (omega arith))
 
   -- the second word of a row
-  field-stays : (n i : ℕ) → n < length (moduleOf s .chunks) → i < length (chunkNo (moduleOf s) n .code) → getD v (rowAt (moduleOf s) n i + 1) 0 ≡ getD ws (rowAt (moduleOf s) n i + 1) 0
+  field-stays : (n i : ℕ) → n < length (moduleOf s .chunks) → i < length (chunkNo (moduleOf s) n .code) → getD v (rowAt (moduleOf s) n i + rowField) 0 ≡ getD ws (rowAt (moduleOf s) n i + rowField) 0
   field-stays n i l o = by-order n c before same behind
     where
-      before : n < c → getD v (rowAt (moduleOf s) n i + 1) 0 ≡ getD ws (rowAt (moduleOf s) n i + 1) 0
+      before : n < c → getD v (rowAt (moduleOf s) n i + rowField) 0 ≡ getD ws (rowAt (moduleOf s) n i + rowField) 0
       before q = under _ (omega (arith, row-before (moduleOf s) n i c o q (omega arith), result-begins (moduleOf s) c, result-next (moduleOf s) c))
 
-      apart : (k : ℕ) → rowAt (moduleOf s) c i + 1 ≡ rowAt (moduleOf s) c k → ⊥
+      apart : (k : ℕ) → rowAt (moduleOf s) c i + rowField ≡ rowAt (moduleOf s) c k → ⊥
       apart k e = by-order i k (λ q. omega (arith, row-apart (moduleOf s) c i k q)) (λ q. omega (arith, ap (rowAt (moduleOf s) c) q)) (λ q. omega (arith, row-apart (moduleOf s) c k i q))
 
-      first : (k : ℕ) → k ≡ i → (rowAt (moduleOf s) c k + 1 < rowsAt (moduleOf s) c + 96) ⊎ (rowsAt (moduleOf s) c + 16 * rowCells (chunkNo (moduleOf s) c) ≤ rowAt (moduleOf s) c k + 1)
+      first : (k : ℕ) → k ≡ i → (rowAt (moduleOf s) c k + rowField < stackAt (rowsAt (moduleOf s) c)) ⊎ (rowsAt (moduleOf s) c + 16 * rowCells (chunkNo (moduleOf s) c) ≤ rowAt (moduleOf s) c k + rowField)
       first zero e = inl (omega (arith, first-row))
       first (suc k) e = inr (omega (arith, last-row (suc k) (omega arith)))
 
-      same : n ≡ c → getD v (rowAt (moduleOf s) n i + 1) 0 ≡ getD ws (rowAt (moduleOf s) n i + 1) 0
+      same : n ≡ c → getD v (rowAt (moduleOf s) n i + rowField) 0 ≡ getD ws (rowAt (moduleOf s) n i + rowField) 0
       same q =
           let t : i < length (chunkNo (moduleOf s) c .code) = rw q at o in
           rw q (untouched _ (omega (arith, row-in (moduleOf s) c i h t)) (λ k a e. apart k e) (first i refl))
 
-      behind : c < n → getD v (rowAt (moduleOf s) n i + 1) 0 ≡ getD ws (rowAt (moduleOf s) n i + 1) 0
+      behind : c < n → getD v (rowAt (moduleOf s) n i + rowField) 0 ≡ getD ws (rowAt (moduleOf s) n i + rowField) 0
       behind q =
           untouched _ (omega (arith, row-in (moduleOf s) n i l o))
           (λ k a e. omega (arith, row-before (moduleOf s) c k n a q (omega arith), row-begins (moduleOf s) n i))
@@ -202,7 +202,7 @@ module _ (s ws : List ℕ) (c : ℕ) (p : Prepared s ws) (h : c < length (module
       cellAt-same w ws _ _ (λ j o. x .other _ (λ i q e.
       omega (arith, inputs-first (moduleOf s) c k l, result-next (moduleOf s) c, rows-begin (moduleOf s) c i)))
 
-  locals-first : cellsAt v (rowAt (moduleOf s) c 0 + 96 + 16 * chunkNo (moduleOf s) c .stack) (chunkNo (moduleOf s) c .locals)
+  locals-first : cellsAt v (localsAt (rowAt (moduleOf s) c 0) (chunkNo (moduleOf s) c .stack)) (chunkNo (moduleOf s) c .locals)
       ≡ filled (chunkNo (moduleOf s) c .locals) (cellsAt ws (inputAt (moduleOf s) c 0) (length (chunkNo (moduleOf s) c .params)))
   unfolding chunkAt
   locals-first =
@@ -210,7 +210,7 @@ module _ (s ws : List ℕ) (c : ℕ) (p : Prepared s ws) (h : c < length (module
       (λ k l m. at k ∙ local-cell k l ∙ rw (lt-ltb k (length (chunkNo (moduleOf s) c .params)) m) (input-stays k m))
       (λ k l m. at k ∙ local-cell k l ∙ rw (le-ltb k (length (chunkNo (moduleOf s) c .params)) m))
     where
-      at : (k : ℕ) → cellAt v (rowAt (moduleOf s) c 0 + 96 + 16 * chunkNo (moduleOf s) c .stack + 16 * k)
+      at : (k : ℕ) → cellAt v (localsAt (rowAt (moduleOf s) c 0) (chunkNo (moduleOf s) c .stack) + 16 * k)
           ≡ cellAt v (localAt (rowsAt (moduleOf s) c) (chunkNo (moduleOf s) c .stack) k)
       at k = ap (cellAt v) (omega (arith, first-row))
 
@@ -240,7 +240,7 @@ module _ (s ws : List ℕ) (c : ℕ) (p : Prepared s ws) (h : c < length (module
       ∙ ap₂ (λ (a : List (Option State)) (b : Option State). set a 0 b) (row-none none 0 (length (chunkNo (moduleOf s) c .code))) (state-first l)
 
   -- ---- its queue
-  ready-first : Ready w3 (wordsOf (moduleOf s)) noEntries
+  ready-first : QueueReady w3 (wordsOf (moduleOf s)) noEntries
   ready-first = record { fits = omega (arith, p .room, raised-long); head = omega (arith, p .room, raised-long); count = omega arith }
 
   room-first : 0 < capOf w3 (wordsOf (moduleOf s))
@@ -321,7 +321,7 @@ module _ (s ws : List ℕ) (c : ℕ) (p : Prepared s ws) (h : c < length (module
 
   module _ (t : Tables) (tables : t ≡ tablesOf s) (w w2 w3 : List ℕ) (x : Cleared ch (ch .count) ws w) (y : Filled ch (ch .locals) w w2)
       (raised : w3 ≡ set w2 (ch .rows) 1) where
-    pub queue-there : Ready w3 (t .«queue_at») noEntries × (0 < length w3 - t .«queue_at»)
+    pub queue-there : QueueReady w3 (t .«queue_at») noEntries × (0 < length w3 - t .«queue_at»)
     unfolding tablesOf
     queue-there =
         let l : length w3 ≡ length ws = ap length raised ∙ length-set w2 (ch .rows) 1 ∙ y .out .length ∙ x .long in

@@ -19,7 +19,7 @@ use Rattle.layout.specs.declared.Chunk.{Chunk as ChunkNumbers}
 use Rattle.layout.specs.Indexed.{tablesOf, chunkAt}
 use Rattle.layout.proofs.Read.{chunks-are}
 use Rattle.run_state.specs.Course.{statesIn, pastIn}
-use Rattle.rounds.specs.entering.Reach.{Reached}
+use Rattle.rounds.specs.entering.Reach.{NextReachable}
 
 -- ---- the search for it
 abbrev pub Skipped : List ℕ → ℕ → ℕ → Type 0
@@ -35,11 +35,11 @@ module _ (s ws : List ℕ) (t : Tables) (tables : t ≡ tablesOf s) (from c : �
     skip-one f k l m =
         below-more (λ (j : ℕ). from ≤ j → chunkNo (moduleOf s) j .reachable ≡ false) c (λ j o q. skipped j q o) (λ q. reachable-is s ws c ch false e f) k m l
 
-    pub found-here : c < t .chunks → ch .reachable ≡ true → Reached s from c
+    pub found-here : c < t .chunks → ch .reachable ≡ true → NextReachable s from c
     found-here l f =
         record { low = low; high = omega (arith, chunks-are s t tables); skipped = skipped; found = λ o. reachable-is s ws c ch true e f }
 
-  pub found-none : c ≤ t .chunks → t .chunks ≤ c → Reached s from (t .chunks)
+  pub found-none : c ≤ t .chunks → t .chunks ≤ c → NextReachable s from (t .chunks)
   found-none l m =
       record {
         low = omega arith;
@@ -65,12 +65,12 @@ unfolding chunkNo
 chunks-from s n h = drop-cons (moduleOf s .chunks) n noChunk h
 
 module _ {F R G : Type 0} (join : State → State → Res (Joined State)) (cap : ℕ) (chunks : List Chunk) (start : Chunk → R → List (Option State))
-    (after : Chunk → List (Option State) → Option (ℕ × ℕ)) (open′ : R → F) (view : F → R) (absorb : F → G → F) (loud : F → Bool) (close : F → R)
+    (after : Chunk → List (Option State) → Option (ℕ × ℕ)) (open′ : R → F) (view : F → R) (absorb : F → G → F) (moved : F → Bool) (close : F → R)
     (leaves : Bool → Chunk → R → ℕ → State → Res (Effect State G)) (s ws : List ℕ) (v : Bool)
     (end : F → List (List (Option State)) → Where Chunk F R State) (f : F) where
   -- the machine goes on from the chunk n
   abbrev entersAt : ℕ → List (List (Option State)) → List Chunk → Where Chunk F R State
-  entersAt n past cs = enter join cap chunks (λ c. c .reachable) start after open′ view absorb loud close leaves v end n f past cs
+  entersAt n past cs = enter join cap chunks (λ c. c .reachable) start after open′ view absorb moved close leaves v end n f past cs
 
   abbrev entersFrom : ℕ → Where Chunk F R State
   entersFrom n = entersAt n (pastIn s ws n) (drop n (moduleOf s .chunks))
@@ -88,12 +88,12 @@ module _ {F R G : Type 0} (join : State → State → Res (Joined State)) (cap :
       ∙ skips d (suc n) (omega arith) (λ k a b. e k (omega arith) (omega arith))
       ∙ ap entersFrom (suc-out d n)
 
-  reaches : (n r : ℕ) → Reached s n r → entersFrom n ≡ entersFrom r
+  reaches : (n r : ℕ) → NextReachable s n r → entersFrom n ≡ entersFrom r
   reaches n r x =
       let z : r - n + n ≡ r = omega (arith, x .low) in
       skips (r - n) n (omega (arith, x .high, x .low)) (λ k a b. x .skipped k a (omega (arith, x .low))) ∙ ap entersFrom z
 
-  pub enters-found : (n r : ℕ) → Reached s n r → r < length (moduleOf s .chunks)
+  pub enters-found : (n r : ℕ) → NextReachable s n r → r < length (moduleOf s .chunks)
       → entersFrom n
       ≡ due
       (record {
@@ -109,7 +109,7 @@ module _ {F R G : Type 0} (join : State → State → Res (Joined State)) (cap :
   unfolding enter
   enters-found n r x h = reaches n r x ∙ ap (entersAt r (pastIn s ws r)) (chunks-from s r h) ∙ rw (x .found h)
 
-  pub enters-none : (n r : ℕ) → Reached s n r → length (moduleOf s .chunks) ≤ r → entersFrom n ≡ end f (pastIn s ws (length (moduleOf s .chunks)))
+  pub enters-none : (n r : ℕ) → NextReachable s n r → length (moduleOf s .chunks) ≤ r → entersFrom n ≡ end f (pastIn s ws (length (moduleOf s .chunks)))
   unfolding enter
   enters-none n r x h =
       let e : r ≡ length (moduleOf s .chunks) = omega (arith, x .high) in

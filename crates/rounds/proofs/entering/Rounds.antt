@@ -18,7 +18,7 @@ use Rattle.run_state.specs.declared.Run.{Run}
 use Rattle.run_state.specs.Course.{finalIn, pastIn, roomIn, knownAs, Low, LowBefore, Prepared}
 use Rattle.rounds.specs.declared.entering.Settled.the-variants.{Due, Done}
 use Rattle.rounds.specs.entering.Entering.{whereIn, Goes, Opened}
-use Rattle.rounds.specs.entering.Reach.{Reached}
+use Rattle.rounds.specs.entering.Reach.{NextReachable}
 use Rattle.rounds.proofs.entering.Reach.{enters-found, enters-none}
 use Rattle.rounds.specs.entering.Began.{entered, Began}
 
@@ -29,14 +29,14 @@ module _ (s ws : List ℕ) (cap : ℕ) (v : Bool) (end : Live → List (List (Op
       enter join cap (knownAs s .code .chunks) (λ c. c .reachable) start afterChunk opened (λ x. x .known) (absorb (knownAs s .code)) moved closed (leaves (knownAs s)) v
       end n f past cs
 
-  pub enters-due : (changed : Bool) (n r : ℕ) → Reached s n r → r < length (moduleOf s .chunks)
+  pub enters-due : (changed : Bool) (n r : ℕ) → NextReachable s n r → r < length (moduleOf s .chunks)
       → entersIn (liveIn s ws changed) (pastIn s ws n) n (drop n (moduleOf s .chunks)) ≡ due (entered s ws r v changed)
   unfolding liveIn
   enters-due changed n r x h =
       enters-found join cap (knownAs s .code .chunks) start afterChunk opened (λ x. x .known) (absorb (knownAs s .code)) moved closed (leaves (knownAs s)) s ws v
       end (liveIn s ws changed) n r x h
 
-  pub enters-end : (f : Live) (n r : ℕ) → Reached s n r → length (moduleOf s .chunks) ≤ r
+  pub enters-end : (f : Live) (n r : ℕ) → NextReachable s n r → length (moduleOf s .chunks) ≤ r
       → entersIn f (pastIn s ws n) n (drop n (moduleOf s .chunks)) ≡ end f (pastIn s ws (length (moduleOf s .chunks)))
   enters-end f n r x h =
       enters-none join cap (knownAs s .code .chunks) start afterChunk opened (λ x. x .known) (absorb (knownAs s .code)) moved closed (leaves (knownAs s)) s ws v
@@ -48,7 +48,7 @@ finishIn s cap =
     finish join cap (knownAs s .code .chunks) (λ c. c .reachable) start afterChunk opened (λ x. x .known) (absorb (knownAs s .code)) moved closed (leaves (knownAs s))
 
 -- the chunks that were passed have no states
-pub low-reached : (s ws : List ℕ) (n r : ℕ) → Reached s n r → LowBefore s ws n → LowBefore s ws r
+pub low-reached : (s ws : List ℕ) (n r : ℕ) → NextReachable s n r → LowBefore s ws n → LowBefore s ws r
 unfolding LowBefore
 low-reached s ws n r x low k l e = go (ltb k n) refl
   where
@@ -57,11 +57,11 @@ low-reached s ws n r x low k l e = go (ltb k n) refl
     go false q = let f = x .skipped k (ltb-false k n q) l in let z : _≡_ {A = ℕ} 0 1 = cc in absurd (omega arith)
 
 -- ---- a pass over all chunks begins
-pub low-all : (s ws : List ℕ) (r : ℕ) → Reached s 0 r → LowBefore s ws r
+pub low-all : (s ws : List ℕ) (r : ℕ) → NextReachable s 0 r → LowBefore s ws r
 unfolding LowBefore
 low-all s ws r x = low-reached s ws 0 r x (λ k l e. absurd (omega arith))
 
-module _ (s ws : List ℕ) (validating : Bool) (steps n : ℕ) (x : Reached s 0 n) where
+module _ (s ws : List ℕ) (validating : Bool) (steps n : ℕ) (x : NextReachable s 0 n) where
   pub opens : (v : List ℕ) (r : Run) → n < length (moduleOf s .chunks) → Began s ws v n validating false steps r → Opened s ws v validating steps (Due r)
   unfolding Opened whereIn Goes knownOf pastIn row
   opens v r h b =

@@ -12,7 +12,7 @@ use lib.ListN.{length, getD, set, length-set}
 use lib.Seq.{getD-set-same, getD-set-other}
 use Rattle.cells.specs.declared.Cell.{Cell}
 use Rattle.cells.specs.Cell.{unitCell}
-use Rattle.words.specs.Layout.{cellAt, putCell, copyN, Fit}
+use Rattle.words.specs.Layout.{cellAt, putCell, copyN, Storable}
 use Rattle.words.proofs.Laws.{cellAt-put, cellAt-copy}
 use Rattle.words.proofs.RowLaws.{outside-refl, outside-trans, outside-widen, outside-put, outside-copy, cellAt-outside}
 use Rattle.layout.specs.declared.Chunk.{Chunk}
@@ -54,7 +54,7 @@ module _ (ch : Chunk) (i : ℕ) (ws : List ℕ) (there : LocalsThere ws ch) (les
         cell = cellAt-copy ws _ _ (local-room ws ch i there less) ∙ rw (lt-ltb i (ch .params) l);
       })
 
-  pub filled-unit : (c : Cell) (v : List ℕ) → ch .params ≤ i → c ≡ unitCell → Fit c → v ≡ putCell ws to c → FilledAt ch i ws v
+  pub filled-unit : (c : Cell) (v : List ℕ) → ch .params ≤ i → c ≡ unitCell → Storable c → v ≡ putCell ws to c → FilledAt ch i ws v
   filled-unit c v l u f q =
       rw (q, e)
       (record {

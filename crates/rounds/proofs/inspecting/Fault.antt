@@ -27,11 +27,11 @@ use Rattle.definition.specs.Module.{Line, row, moduleOf}
 use Rattle.definition.specs.State.{State}
 use Rattle.definition.specs.Outputs.{noCell}
 use Rattle.definition.specs.Leaves.{lineAt}
-use Rattle.definition.specs.Machine.{refusal}
+use Rattle.answers.specs.Answers.{refusal}
 use Rattle.definition.specs.Start.{last, underEight, inspectionFault, stateFault, inspected, afterChunk}
-use Rattle.form_laws.specs.Good.{chunkNo, lineNo}
+use Rattle.form_laws.specs.Good.{chunkNo}
 use Rattle.layout.specs.declared.Chunk.{Chunk as ChunkNumbers}
-use Rattle.layout.specs.Layout.{placeAt}
+use Rattle.layout.specs.Layout.{placeAt, stackAt}
 use Rattle.layout.specs.Indexed.{Indexed, chunkAt}
 use Rattle.layout.proofs.Read.{row-is, row-known}
 use Rattle.row_join.specs.joining.Leave.{stateBy, stateIn}
@@ -39,16 +39,17 @@ use Rattle.run_state.specs.Course.{statesIn, Low}
 use Rattle.run_state.proofs.Rows.{stateAt}
 use Rattle.rule_laws.proofs.Table.{every-rule}
 use Rattle.rounds.specs.inspecting.Fault.{Inspected, RowRead, enumFault, opFault, receiverFault, structFault}
+use Rattle.ops.specs.Numbers.{opIsEnum, opIsStruct}
 
-pub fault-struct : (op : ℕ) (c : Cell) (h k b : Bool) → op ≡ 41 → h ≡ has (c .mask) STRUCT → k ≡ same (c .mask) STRUCT → (h && not k) ≡ b
+pub fault-struct : (op : ℕ) (c : Cell) (h k b : Bool) → op ≡ opIsStruct → h ≡ has (c .mask) STRUCT → k ≡ same (c .mask) STRUCT → (h && not k) ≡ b
     → cond b 17 0 ≡ receiverFault op c
 unfolding receiverFault
-fault-struct op c h k b e p q t = rw (eq-eqb op 41 e, ← p, ← q, t)
+fault-struct op c h k b e p q t = rw (eq-eqb op opIsStruct e, ← p, ← q, t)
 
-pub fault-enum : (op : ℕ) (c : Cell) (h k b : Bool) → (op ≡ 41 → ⊥) → h ≡ has (c .mask) ENUM
+pub fault-enum : (op : ℕ) (c : Cell) (h k b : Bool) → (op ≡ opIsStruct → ⊥) → h ≡ has (c .mask) ENUM
     → k ≡ underEight (extentMinimum (getD (c .flow .bodies) 3 absent)) → (h && k) ≡ b → cond b 16 0 ≡ receiverFault op c
 unfolding receiverFault
-fault-enum op c h k b e p q t = rw (ne-eqb op 41 e, ← p, ← q, t)
+fault-enum op c h k b e p q t = rw (ne-eqb op opIsStruct e, ← p, ← q, t)
 
 -- 1 and 2 for the two
 abbrev kindOf : Others → ℕ
@@ -60,7 +61,7 @@ kindOf Copies = 0
 kindOf Status = 0
 
 abbrev kindAt : ℕ → ℕ
-kindAt op = cond (eqb op 40) 1 (cond (eqb op 41) 2 0)
+kindAt op = cond (eqb op opIsEnum) 1 (cond (eqb op opIsStruct) 2 0)
 
 kind-is : (op : ℕ) → kindOf (ruleOf op .others) ≡ kindAt op
 unfolding rules
@@ -111,7 +112,7 @@ or-off true b e f = refl
 or-off false b e f = sym e ∙ f
 
 -- the code's test: no inspection, or nothing on the stack
-pub fault-none : (ws : List ℕ) (row op : ℕ) → ((not (eqb op 40) && not (eqb op 41)) || ltb (getD ws row 0) 2) ≡ true → (stack locals : ℕ)
+pub fault-none : (ws : List ℕ) (row op : ℕ) → ((not (eqb op opIsEnum) && not (eqb op opIsStruct)) || ltb (getD ws row 0) 2) ≡ true → (stack locals : ℕ)
     → 0 ≡ opFault op (stateIn ws row stack locals)
 unfolding stateIn stateBy opFault last cellsAt
 fault-none ws row op t stack locals = go (getD ws row 0) t
@@ -121,17 +122,17 @@ fault-none ws row op t stack locals = go (getD ws row 0) t
     other false true e = let z : _≡_ {A = ℕ} 0 1 = cc in absurd (omega arith)
     other false false e = refl
 
-    go : (h : ℕ) → ((not (eqb op 40) && not (eqb op 41)) || ltb h 2) ≡ true → 0 ≡ opFault op (stateBy ws row stack locals h)
+    go : (h : ℕ) → ((not (eqb op opIsEnum) && not (eqb op opIsStruct)) || ltb h 2) ≡ true → 0 ≡ opFault op (stateBy ws row stack locals h)
     go zero t = refl
     go (suc zero) t = sym (fault-is op noCell ∙ nothing-known (kindAt op))
     go (suc (suc h)) t =
-        let e : (not (eqb op 40) && not (eqb op 41)) ≡ true = or-off (not (eqb op 40) && not (eqb op 41)) (ltb (suc (suc h)) 2) (le-ltb (suc (suc h)) 2 (omega arith)) t in
-        sym (fault-is op _ ∙ ap (λ (f : Cell → ℕ). f (last (cellsAt ws (row + 96) (suc h)))) (other (eqb op 40) (eqb op 41) e))
+        let e : (not (eqb op opIsEnum) && not (eqb op opIsStruct)) ≡ true = or-off (not (eqb op opIsEnum) && not (eqb op opIsStruct)) (ltb (suc (suc h)) 2) (le-ltb (suc (suc h)) 2 (omega arith)) t in
+        sym (fault-is op _ ∙ ap (λ (f : Cell → ℕ). f (last (cellsAt ws (stackAt row) (suc h)))) (other (eqb op opIsEnum) (eqb op opIsStruct) e))
 
-pub stack-high : (op h : ℕ) → ((not (eqb op 40) && not (eqb op 41)) || ltb h 2) ≡ false → 2 ≤ h
-stack-high op h t = ltb-false h 2 (or-right (not (eqb op 40) && not (eqb op 41)) (ltb h 2) t)
+pub stack-high : (op h : ℕ) → ((not (eqb op opIsEnum) && not (eqb op opIsStruct)) || ltb h 2) ≡ false → 2 ≤ h
+stack-high op h t = ltb-false h 2 (or-right (not (eqb op opIsEnum) && not (eqb op opIsStruct)) (ltb h 2) t)
 
-pub fault-read : (ws : List ℕ) (row op : ℕ) → ((not (eqb op 40) && not (eqb op 41)) || ltb (getD ws row 0) 2) ≡ false → (stack locals : ℕ)
+pub fault-read : (ws : List ℕ) (row op : ℕ) → ((not (eqb op opIsEnum) && not (eqb op opIsStruct)) || ltb (getD ws row 0) 2) ≡ false → (stack locals : ℕ)
     → receiverFault op (cellAt ws (placeAt row (getD ws row 0 - 2))) ≡ opFault op (stateIn ws row stack locals)
 unfolding stateIn stateBy opFault receiverFault
 fault-read ws row op t stack locals = go (getD ws row 0) t
@@ -141,41 +142,41 @@ fault-read ws row op t stack locals = go (getD ws row 0) t
     which false true c e f = refl
     which false false c e f = let z : _≡_ {A = ℕ} 0 1 = cc in absurd (omega arith)
 
-    go : (h : ℕ) → ((not (eqb op 40) && not (eqb op 41)) || ltb h 2) ≡ false
-        → cond (eqb op 41) (structFault (cellAt ws (placeAt row (h - 2)))) (enumFault (cellAt ws (placeAt row (h - 2)))) ≡ opFault op (stateBy ws row stack locals h)
-    go zero t = never (sym (or-right (not (eqb op 40) && not (eqb op 41)) true t))
-    go (suc zero) t = never (sym (or-right (not (eqb op 40) && not (eqb op 41)) true t))
+    go : (h : ℕ) → ((not (eqb op opIsEnum) && not (eqb op opIsStruct)) || ltb h 2) ≡ false
+        → cond (eqb op opIsStruct) (structFault (cellAt ws (placeAt row (h - 2)))) (enumFault (cellAt ws (placeAt row (h - 2)))) ≡ opFault op (stateBy ws row stack locals h)
+    go zero t = never (sym (or-right (not (eqb op opIsEnum) && not (eqb op opIsStruct)) true t))
+    go (suc zero) t = never (sym (or-right (not (eqb op opIsEnum) && not (eqb op opIsStruct)) true t))
     go (suc (suc h)) t =
-        let z : placeAt row (suc (suc h) - 2) ≡ row + 96 + 16 * h = omega arith in
-        which (eqb op 40) (eqb op 41) (cellAt ws (placeAt row (suc (suc h) - 2))) (or-left (not (eqb op 40) && not (eqb op 41)) (ltb (suc (suc h)) 2) t)
-        (λ e. ne-eqb op 41 (λ q. omega (arith, eqb-true op 40 e)))
-        ∙ sym (fault-is op _ ∙ ap (byKind (kindAt op)) (last-cell ws (row + 96) h ∙ ap (cellAt ws) (sym z)))
+        let z : placeAt row (suc (suc h) - 2) ≡ placeAt row h = omega arith in
+        which (eqb op opIsEnum) (eqb op opIsStruct) (cellAt ws (placeAt row (suc (suc h) - 2))) (or-left (not (eqb op opIsEnum) && not (eqb op opIsStruct)) (ltb (suc (suc h)) 2) t)
+        (λ e. ne-eqb op opIsStruct (λ q. omega (arith, eqb-true op opIsEnum e)))
+        ∙ sym (fault-is op _ ∙ ap (byKind (kindAt op)) (last-cell ws (stackAt row) h ∙ ap (cellAt ws) (sym z)))
 
 module _ (s ws : List ℕ) (c : ℕ) where
   -- nothing was found before i
   unfoldable pub FaultFrom : ℕ → Type 0
   FaultFrom i =
       afterChunk (chunkNo (moduleOf s) c) (statesIn s ws c)
-      ≡ inspected (chunkNo (moduleOf s) c .code) i (row (stateAt s c ws) i (length (chunkNo (moduleOf s) c .code) - i))
+      ≡ inspected (chunkNo (moduleOf s) c) i (row (stateAt s c ws) i (length (chunkNo (moduleOf s) c .code) - i))
 
   pub fault-start : FaultFrom 0
   unfolding FaultFrom afterChunk statesIn
   fault-start =
       let z : length (chunkNo (moduleOf s) c .code) ≡ length (chunkNo (moduleOf s) c .code) - 0 = omega arith in
-      ap (λ (n : ℕ). inspected (chunkNo (moduleOf s) c .code) 0 (row (stateAt s c ws) 0 n)) z
+      ap (λ (n : ℕ). inspected (chunkNo (moduleOf s) c) 0 (row (stateAt s c ws) 0 n)) z
 
   -- one more
-  step : (i : ℕ) → i < length (chunkNo (moduleOf s) c .code) → FaultFrom i → (n : ℕ) → n ≡ opFault (lineNo (chunkNo (moduleOf s) c) i .instr .op) (stateAt s c ws i)
+  step : (i : ℕ) → i < length (chunkNo (moduleOf s) c .code) → FaultFrom i → (n : ℕ) → n ≡ opFault (lineAt (chunkNo (moduleOf s) c) i .instr .op) (stateAt s c ws i)
       → afterChunk (chunkNo (moduleOf s) c) (statesIn s ws c)
-      ≡ cond (eqb n 0) (inspected (chunkNo (moduleOf s) c .code) (suc i) (row (stateAt s c ws) (suc i) (length (chunkNo (moduleOf s) c .code) - suc i))) (some (n, i))
-  unfolding FaultFrom inspected row lineAt lineNo
+      ≡ cond (eqb n 0) (inspected (chunkNo (moduleOf s) c) (suc i) (row (stateAt s c ws) (suc i) (length (chunkNo (moduleOf s) c .code) - suc i))) (some (n, i))
+  unfolding FaultFrom inspected row
   step i l x n e =
       let z : length (chunkNo (moduleOf s) c .code) - i ≡ suc (length (chunkNo (moduleOf s) c .code) - suc i) = omega arith in
-      let f : stateFault (lineNo (chunkNo (moduleOf s) c) i) (stateAt s c ws i) ≡ n = op-fault (lineNo (chunkNo (moduleOf s) c) i) (stateAt s c ws i) ∙ sym e in
-      x ∙ ap (λ (k : ℕ). inspected (chunkNo (moduleOf s) c .code) i (row (stateAt s c ws) i k)) z
-      ∙ ap (λ (k : ℕ). cond (eqb k 0) (inspected (chunkNo (moduleOf s) c .code) (suc i) (row (stateAt s c ws) (suc i) (length (chunkNo (moduleOf s) c .code) - suc i))) (some (k, i))) f
+      let f : stateFault (lineAt (chunkNo (moduleOf s) c) i) (stateAt s c ws i) ≡ n = op-fault (lineAt (chunkNo (moduleOf s) c) i) (stateAt s c ws i) ∙ sym e in
+      x ∙ ap (λ (k : ℕ). inspected (chunkNo (moduleOf s) c) i (row (stateAt s c ws) i k)) z
+      ∙ ap (λ (k : ℕ). cond (eqb k 0) (inspected (chunkNo (moduleOf s) c) (suc i) (row (stateAt s c ws) (suc i) (length (chunkNo (moduleOf s) c .code) - suc i))) (some (k, i))) f
 
-  module _ (i n : ℕ) (l : i < length (chunkNo (moduleOf s) c .code)) (x : FaultFrom i) (e : n ≡ opFault (lineNo (chunkNo (moduleOf s) c) i .instr .op) (stateAt s c ws i)) where
+  module _ (i n : ℕ) (l : i < length (chunkNo (moduleOf s) c .code)) (x : FaultFrom i) (e : n ≡ opFault (lineAt (chunkNo (moduleOf s) c) i .instr .op) (stateAt s c ws i)) where
     pub fault-next : n ≡ 0 → FaultFrom (i + 1)
     unfolding FaultFrom
     fault-next t = step i l x n e ∙ rw (eq-eqb n 0 t, add-one i)
@@ -190,7 +191,7 @@ module _ (s ws : List ℕ) (c : ℕ) where
       let z : length (chunkNo (moduleOf s) c .code) - i ≡ 0 = omega arith in
       rw q
       (record {
-        fault = x ∙ ap (λ (n : ℕ). inspected (chunkNo (moduleOf s) c .code) i (row (stateAt s c ws) i n)) z;
+        fault = x ∙ ap (λ (n : ℕ). inspected (chunkNo (moduleOf s) c) i (row (stateAt s c ws) i n)) z;
         place = refl;
         same-steps = refl;
       })
@@ -205,8 +206,8 @@ row-read s ws c ch i x h e l low =
 
 -- the fault that the code reads off the row of the instruction i
 pub fault-of : (s ws : List ℕ) (c : ℕ) (ch : ChunkNumbers) (i at : ℕ) (x : Instr) (n : ℕ) → ch ≡ chunkAt s ws c → at ≡ ch .rows + i * ch .size
-    → x ≡ lineNo (chunkNo (moduleOf s) c) i .instr → ((stack locals : ℕ) → n ≡ opFault (x .op) (stateIn ws at stack locals))
-    → n ≡ opFault (lineNo (chunkNo (moduleOf s) c) i .instr .op) (stateAt s c ws i)
+    → x ≡ lineAt (chunkNo (moduleOf s) c) i .instr → ((stack locals : ℕ) → n ≡ opFault (x .op) (stateIn ws at stack locals))
+    → n ≡ opFault (lineAt (chunkNo (moduleOf s) c) i .instr .op) (stateAt s c ws i)
 fault-of s ws c ch i at x n e p q f =
     f (chunkNo (moduleOf s) c .stack) (chunkNo (moduleOf s) c .locals)
     ∙ rw (q, p ∙ row-is s ws c ch e i)

@@ -7,7 +7,7 @@ use lib.ListN.{length}
 use Rattle.definition.specs.Module.{moduleOf}
 use Rattle.form_laws.specs.Good.{chunkNo}
 
-pub record Reached (s : List ℕ) (from r : ℕ) : Type 0 where
+pub record NextReachable (s : List ℕ) (from r : ℕ) : Type 0 where
   pub low : from ≤ r
   pub high : r ≤ length (moduleOf s .chunks)
   pub skipped : (k : ℕ) → from ≤ k → k < r → chunkNo (moduleOf s) k .reachable ≡ false

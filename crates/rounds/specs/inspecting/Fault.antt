@@ -1,5 +1,5 @@
 -- What is looked for after a chunk was validated, as the code looks for it: by the instruction, in the words of its row.
-use Prim.Native.Nat.{ℕ, _+_, _*_, _<_, _≤_}
+use Prim.Native.Nat.{ℕ, _+_, _<_, _≤_}
 use mathlib.Core.Path.{_≡_}
 use mathlib.Core.Bool.{not, cond, _&&_}
 use mathlib.Core.Option.{Option, none, some}
@@ -18,6 +18,8 @@ use Rattle.definition.specs.State.{State}
 use Rattle.definition.specs.Start.{last, underEight, inspectionFault, afterChunk}
 use Rattle.form_laws.specs.Good.{chunkNo}
 use Rattle.run_state.specs.Course.{statesIn}
+use Rattle.layout.specs.Layout.{placeAt}
+use Rattle.ops.specs.Numbers.{opIsStruct}
 
 -- ---- which instructions inspect: 40 for ENUM, 41 for STRUCT
 abbrev pub enumFault : Cell → ℕ
@@ -28,7 +30,7 @@ structFault c = cond (has (c .mask) STRUCT && not (same (c .mask) STRUCT)) 17 0
 
 -- the fault of a receiver, for either
 unfoldable pub receiverFault : ℕ → Cell → ℕ
-receiverFault op c = cond (eqb op 41) (structFault c) (enumFault c)
+receiverFault op c = cond (eqb op opIsStruct) (structFault c) (enumFault c)
 
 -- ---- in the words of a row
 -- the fault of an instruction with this state
@@ -44,5 +46,5 @@ pub record Inspected (s ws : List ℕ) (c steps : ℕ) (r : Refusal) : Type 0 wh
 
 -- the words of a row that are read
 pub record RowRead (ws : List ℕ) (row : ℕ) : Type 0 where
-  pub room : row + 96 + 16 * getD ws row 0 ≤ length ws + 16
+  pub room : placeAt row (getD ws row 0) ≤ length ws + 16
   pub small : row < 4294967296

@@ -1,5 +1,5 @@
 -- What leaves is the definition's state after the visit, along the way; and how it meets its target is what the machine puts there.
-use Prim.Native.Nat.{ℕ, zero, suc, _+_, _*_, _-_, _≤_}
+use Prim.Native.Nat.{ℕ, zero, suc, _+_, _-_, _≤_}
 use mathlib.Core.Path.{_≡_, refl, sym, ap, ap₂, _∙_}
 use mathlib.Core.Bool.{Bool, true, false, cond, _&&_}
 use mathlib.Core.Option.{Option, none, some}
@@ -24,7 +24,7 @@ use Rattle.layout.specs.declared.Chunk.{Chunk}
 use Rattle.words.specs.Layout.{cellAt}
 use Rattle.words.specs.Rows.{cellsAt}
 use Rattle.words.proofs.RowLaws.{cellsAt-length}
-use Rattle.row_join.specs.places.Arrive.{nowhere, keptCell}
+use Rattle.row_join.specs.places.Arrive.{noLocal, keptCell}
 use Rattle.row_join.proofs.places.Laws.{sameCells-sound, map-append}
 use Rattle.row_join.specs.joining.Leave.{keptLocals, keptStack, narrowedLocal, setOnWay, leavesKept, leavesReset, leavesAs, stateBy, stateIn, metState, metHow}
 use Rattle.row_join.specs.declared.joining.Leaving.{Leaving}
@@ -33,6 +33,7 @@ use Rattle.row_join.specs.declared.joining.Way.{Way}
 use Rattle.row_join.specs.declared.joining.Met.{Met}
 use Rattle.row_join.specs.declared.joining.Met.the-variants.{Same, Changed, Unequal}
 use Rattle.row_join.specs.joining.Met.{SetAs}
+use Rattle.layout.specs.Layout.{localsAt, stackAt}
 
 -- ---- a target that is the same after, or of another height, keeps its state
 sameStates-sound : (x y : State) → sameStates x y ≡ true → x ≡ y
@@ -73,8 +74,8 @@ wide : (w : List ℕ) (at stack locals n : ℕ) (x : State) → stateBy w at sta
 unfolding stateBy
 wide w at stack locals zero x e = let z : _≡_ {A = ℕ} 0 1 = cc in absurd (omega arith)
 wide w at stack locals (suc h) x e =
-    let y : x .locals ≡ cellsAt w (at + 96 + 16 * stack) locals = cc in
-    ap length y ∙ cellsAt-length w (at + 96 + 16 * stack) locals
+    let y : x .locals ≡ cellsAt w (localsAt at stack) locals = cc in
+    ap length y ∙ cellsAt-length w (localsAt at stack) locals
 
 pub state-wide : (w : List ℕ) (at stack locals : ℕ) (x : State) → stateIn w at stack locals ≡ some x → length (x .locals) ≡ locals
 unfolding stateIn
@@ -82,7 +83,7 @@ state-wide w at stack locals x e = wide w at stack locals (getD w at 0) x e
 
 kept-wide : (x : SetLocal) (f : ℕ) (ls : List Cell) → length (keptLocals x f ls) ≡ length ls
 unfolding keptLocals
-kept-wide x f ls = length-set (map (keptCell f nowhere) ls) (x .local) (x .cell) ∙ length-map ls (keptCell f nowhere)
+kept-wide x f ls = length-set (map (keptCell f noLocal) ls) (x .local) (x .cell) ∙ length-map ls (keptCell f noLocal)
 
 reset-wide : (streams : Bool) (reply : Cell) (ls : List Cell) → length (resetFirst streams reply ls) ≡ length ls
 unfolding resetFirst
@@ -94,12 +95,12 @@ unfolding leavesAs leavesKept leavesReset
 leaves-wide ws ch w l = go (l .resets)
   where
     ls : List Cell
-    ls = cellsAt ws (w .from + 96 + 16 * ch .stack) (ch .locals)
+    ls = cellsAt ws (localsAt (w .from) (ch .stack)) (ch .locals)
 
     many : length ls ≡ ch .locals
-    many = cellsAt-length ws (w .from + 96 + 16 * ch .stack) (ch .locals)
+    many = cellsAt-length ws (localsAt (w .from) (ch .stack)) (ch .locals)
 
-    go : (b : Bool) → length (cond b (leavesReset l (ch .streams) (cellAt ws 0) ls) (leavesKept l (w .narrow) (cellsAt ws (w .from + 96) (w .start)) ls) .locals) ≡ ch .locals
+    go : (b : Bool) → length (cond b (leavesReset l (ch .streams) (cellAt ws 0) ls) (leavesKept l (w .narrow) (cellsAt ws (stackAt (w .from)) (w .start)) ls) .locals) ≡ ch .locals
     go true = reset-wide (ch .streams) (cellAt ws 0) ls ∙ many
     go false = kept-wide (setOnWay (l .set) (w .narrow) ls) (l .set .local) ls ∙ many
 
@@ -112,17 +113,17 @@ map-id : (f : Cell → Cell) (xs : List Cell) → ((c : Cell) → f c ≡ c) →
 map-id f [] e = refl
 map-id f (x ∷ xs) e = ap₂ _∷_ (e x) (map-id f xs e)
 
-kept-all : (c : Cell) → keptCell nowhere nowhere c ≡ c
+kept-all : (c : Cell) → keptCell noLocal noLocal c ≡ c
 unfolding keptCell
 kept-all c = refl
 
-kept-without : (l : ℕ) (c : Cell) → (l ≡ nowhere → ⊥) → keptCell l nowhere c ≡ invalidatedCell c l
+kept-without : (l : ℕ) (c : Cell) → (l ≡ noLocal → ⊥) → keptCell l noLocal c ≡ invalidatedCell c l
 unfolding keptCell
-kept-without l c p = rw (ne-eqb l nowhere p)
+kept-without l c p = rw (ne-eqb l noLocal p)
 
-kept-narrowed : (r : ℕ) (c : Cell) → (r ≡ nowhere → ⊥) → keptCell nowhere r c ≡ narrowStack r c
+kept-narrowed : (r : ℕ) (c : Cell) → (r ≡ noLocal → ⊥) → keptCell noLocal r c ≡ narrowStack r c
 unfolding keptCell
-kept-narrowed r c p = rw (ne-eqb r nowhere p)
+kept-narrowed r c p = rw (ne-eqb r noLocal p)
 
 bare-stays : (r : ℕ) (c : Cell) → c .flow .origin ≡ Nowhere → narrowStack r c ≡ c
 unfolding narrowStack isFrom
@@ -133,25 +134,25 @@ unfolding row
 bare-stay r f e i zero = refl
 bare-stay r f e i (suc n) = ap₂ _∷_ (bare-stays r (f i) (e i)) (bare-stay r f e (suc i) n)
 
-module _ (v : Visit) (l : Leaving) (high : l .height ≡ length (v .below) + instr v .given) (few : length (v .locals) ≤ nowhere) where
+module _ (v : Visit) (l : Leaving) (high : l .height ≡ length (v .below) + instr v .given) (few : length (v .locals) ≤ noLocal) where
   given : l .height - length (v .below) ≡ instr v .given
   given = omega arith
 
-  pub leaves-after : (x : Option Setting) → SetAs x (l .set) → leavesKept l nowhere (v .below) (v .locals) ≡ kept v (l .made) x
+  pub leaves-after : (x : Option Setting) → SetAs x (l .set) → leavesKept l noLocal (v .below) (v .locals) ≡ kept v (l .made) x
   unfolding leavesKept keptStack keptLocals kept setLocals forget SetAs setOnWay
   leaves-after none e =
       λ i. record {
-        stack = (ap (λ (n : ℕ). map (keptCell n nowhere) (v .below)) e ∙ map-same (keptCell nowhere nowhere) (λ c. c) (v .below) kept-all) i ++ outputList (l .made) (given i);
-        locals = (ap (λ (n : ℕ). set (map (keptCell n nowhere) (v .locals)) n (l .set .cell)) e ∙ ap (λ (ls : List Cell). set ls nowhere (l .set .cell)) (map-id (keptCell nowhere nowhere) (v .locals) kept-all) ∙ set-out (v .locals) nowhere (l .set .cell) few) i;
+        stack = (ap (λ (n : ℕ). map (keptCell n noLocal) (v .below)) e ∙ map-same (keptCell noLocal noLocal) (λ c. c) (v .below) kept-all) i ++ outputList (l .made) (given i);
+        locals = (ap (λ (n : ℕ). set (map (keptCell n noLocal) (v .locals)) n (l .set .cell)) e ∙ ap (λ (ls : List Cell). set ls noLocal (l .set .cell)) (map-id (keptCell noLocal noLocal) (v .locals) kept-all) ∙ set-out (v .locals) noLocal (l .set .cell) few) i;
       }
   leaves-after (some x) (el, ec, p) =
       λ i. record {
-        stack = (ap (λ (n : ℕ). map (keptCell n nowhere) (v .below)) el ∙ map-same (keptCell (x .local) nowhere) (λ c. invalidatedCell c (x .local)) (v .below) (λ c. kept-without (x .local) c p)) i ++ outputList (l .made) (given i);
-        locals = ((λ j. set (map (keptCell (el j) nowhere) (v .locals)) (el j) (ec j)) ∙ ap (λ (ls : List Cell). set ls (x .local) (x .cell)) (map-same (keptCell (x .local) nowhere) (λ c. invalidatedCell c (x .local)) (v .locals) (λ c. kept-without (x .local) c p))) i;
+        stack = (ap (λ (n : ℕ). map (keptCell n noLocal) (v .below)) el ∙ map-same (keptCell (x .local) noLocal) (λ c. invalidatedCell c (x .local)) (v .below) (λ c. kept-without (x .local) c p)) i ++ outputList (l .made) (given i);
+        locals = ((λ j. set (map (keptCell (el j) noLocal) (v .locals)) (el j) (ec j)) ∙ ap (λ (ls : List Cell). set ls (x .local) (x .cell)) (map-same (keptCell (x .local) noLocal) (λ c. invalidatedCell c (x .local)) (v .locals) (λ c. kept-without (x .local) c p))) i;
       }
 
   -- along a way that narrows; what a test gives came from no local
-  pub leaves-narrowed : (r : ℕ) → l .set .local ≡ nowhere → (r ≡ nowhere → ⊥) → ((k : ℕ) → output (l .made) k .flow .origin ≡ Nowhere) → leavesKept l r (v .below) (v .locals) ≡ narrowed (kept v (l .made) none) r
+  pub leaves-narrowed : (r : ℕ) → l .set .local ≡ noLocal → (r ≡ noLocal → ⊥) → ((k : ℕ) → output (l .made) k .flow .origin ≡ Nowhere) → leavesKept l r (v .below) (v .locals) ≡ narrowed (kept v (l .made) none) r
   unfolding leavesKept keptStack keptLocals kept setLocals forget narrowed setOnWay narrowedLocal outputList
   leaves-narrowed r e p bare = λ i. record { stack = stack i; locals = locals i }
     where
@@ -161,7 +162,7 @@ module _ (v : Visit) (l : Leaving) (high : l .height ≡ length (v .below) + ins
       below : map (keptCell (l .set .local) r) (v .below) ≡ map (narrowStack r) (map (forget none) (v .below))
       below =
           ap (λ (n : ℕ). map (keptCell n r) (v .below)) e
-          ∙ map-same (keptCell nowhere r) (narrowStack r) (v .below) (λ c. kept-narrowed r c p)
+          ∙ map-same (keptCell noLocal r) (narrowStack r) (v .below) (λ c. kept-narrowed r c p)
           ∙ ap (map (narrowStack r)) (sym (map-id (forget none) (v .below) (λ c. refl)))
 
       stack : map (keptCell (l .set .local) r) (v .below) ++ made (l .height - length (v .below)) ≡ map (narrowStack r) (map (forget none) (v .below) ++ made (instr v .given))
@@ -169,11 +170,11 @@ module _ (v : Visit) (l : Leaving) (high : l .height ≡ length (v .below) + ins
           ap₂ _++_ below (ap made given ∙ sym (bare-stay r (output (l .made)) bare 0 (instr v .given)))
           ∙ sym (map-append (narrowStack r) (map (forget none) (v .below)) (made (instr v .given)))
 
-      locals : keptLocals (cond (eqb r nowhere) (l .set) (narrowedLocal r (v .locals))) (l .set .local) (v .locals) ≡ set (v .locals) r (narrowEnum (getD (v .locals) r noCell))
+      locals : keptLocals (cond (eqb r noLocal) (l .set) (narrowedLocal r (v .locals))) (l .set .local) (v .locals) ≡ set (v .locals) r (narrowEnum (getD (v .locals) r noCell))
       locals =
-          ap (λ (t : Bool). keptLocals (cond t (l .set) (narrowedLocal r (v .locals))) (l .set .local) (v .locals)) (ne-eqb r nowhere p)
-          ∙ ap (λ (n : ℕ). set (map (keptCell n nowhere) (v .locals)) r (narrowEnum (getD (v .locals) r noCell))) e
-          ∙ ap (λ (ls : List Cell). set ls r (narrowEnum (getD (v .locals) r noCell))) (map-id (keptCell nowhere nowhere) (v .locals) kept-all)
+          ap (λ (t : Bool). keptLocals (cond t (l .set) (narrowedLocal r (v .locals))) (l .set .local) (v .locals)) (ne-eqb r noLocal p)
+          ∙ ap (λ (n : ℕ). set (map (keptCell n noLocal) (v .locals)) r (narrowEnum (getD (v .locals) r noCell))) e
+          ∙ ap (λ (ls : List Cell). set ls r (narrowEnum (getD (v .locals) r noCell))) (map-id (keptCell noLocal noLocal) (v .locals) kept-all)
 
 -- after a reset
 pub leaves-reset-after : (v : Visit) (l : Leaving) → l .height ≡ instr v .given → leavesReset l (v .streams) (v .reply) (v .locals) ≡ record { stack = outputList (l .made) (instr v .given); locals = resetFirst (v .streams) (v .reply) (v .locals) }

@@ -18,17 +18,15 @@ use Rattle.cells.specs.declared.Cell.{Cell}
 use Rattle.cells.specs.declared.JoinedCell.{JoinedCell}
 use Rattle.cells.specs.Cell.{joinCell, sameCell, invalidatedCell, narrowEnum}
 use Rattle.join_laws.proofs.Cells.{cell-joins, cell-equals, cell-still}
-use Rattle.definition.specs.declared.Made.{Made}
 use Rattle.definition.specs.Module.{row}
-use Rattle.definition.specs.Outputs.{output}
 use Rattle.definition.specs.State.{joinCells, sameCells}
 use Rattle.definition.specs.Ways.{narrowStack, isFrom}
-use Rattle.words.specs.Layout.{cellAt, putCell, copyN, sameN, plainAt, Fit}
+use Rattle.words.specs.Layout.{cellAt, putCell, copyN, sameN, plainAt, Storable}
 use Rattle.words.proofs.Laws.{cellAt-put, cellAt-copy, same-cells, plain-says}
 use Rattle.words.specs.Rows.{cellsAt, Outside}
 use Rattle.words.proofs.RowLaws.{cellsAt-length, cellsAt-append, cellsAt-one, cellAt-outside, cellsAt-outside, outside-refl, outside-trans, outside-widen, outside-put, outside-copy}
 use Rattle.form_laws.proofs.Each.{joinCells-length}
-use Rattle.row_join.specs.places.Arrive.{nowhere, keptCell, untouchedAt, arrive, moves, metCell, Places, Arrived}
+use Rattle.row_join.specs.places.Arrive.{noLocal, keptCell, untouchedAt, arrive, moves, metCell, PlacesApart, Arrived}
 
 -- ---- cells joined and compared one by one
 pub joinCells-append : (os xs bs ys : List Cell) → length os ≡ length xs → joinCells (os ++ bs) (xs ++ ys) ≡ joinCells os xs ++ joinCells bs ys
@@ -150,14 +148,14 @@ arrived-one false to c w v b e q o =
     }
 
 -- a cell that is stored, copied, or there already
-pub arrived-stored : (fresh : Bool) (to : ℕ) (c : Cell) (w v : List ℕ) (j : JoinedCell) → to + 16 ≤ length w → j ≡ metCell fresh (cellAt w to) c → v ≡ putCell w to (j .cell) → Fit (j .cell) → Arrived fresh to 1 (c ∷ []) w v (j .changed)
+pub arrived-stored : (fresh : Bool) (to : ℕ) (c : Cell) (w v : List ℕ) (j : JoinedCell) → to + 16 ≤ length w → j ≡ metCell fresh (cellAt w to) c → v ≡ putCell w to (j .cell) → Storable (j .cell) → Arrived fresh to 1 (c ∷ []) w v (j .changed)
 arrived-stored fresh to c w v j l q e f =
     arrived-one fresh to c w v (j .changed)
     (ap (λ (x : List ℕ). cellAt x to) e ∙ cellAt-put w to (j .cell) (omega arith) f ∙ ap (λ (x : JoinedCell). x .cell) q)
     (ap (λ (x : JoinedCell). x .changed) q)
     (rw e (outside-put w to (j .cell)))
 
-pub arrived-copied : (from to : ℕ) (w v : List ℕ) → Places w from to 1 → v ≡ copyN w from to 15 → Arrived true to 1 (cellAt w from ∷ []) w v true
+pub arrived-copied : (from to : ℕ) (w v : List ℕ) → PlacesApart w from to 1 → v ≡ copyN w from to 15 → Arrived true to 1 (cellAt w from ∷ []) w v true
 arrived-copied from to w v s e =
     arrived-one true to (cellAt w from) w v true
     (ap (λ (x : List ℕ). cellAt x to) e ∙ cellAt-copy w from to (omega (arith, s .target)))
@@ -177,7 +175,7 @@ arrived-there from to w e =
 -- ---- a cell that nothing touches
 plain-kept : (c : Cell) (forget narrow : ℕ) → c .flow .origin ≡ Nowhere → c .flow .predicate ≡ Untested → keptCell forget narrow c ≡ c
 unfolding keptCell narrowStack isFrom invalidatedCell invalidated
-plain-kept c forget narrow o p = go (eqb forget nowhere) (eqb narrow nowhere)
+plain-kept c forget narrow o p = go (eqb forget noLocal) (eqb narrow noLocal)
   where
     stays : narrowStack narrow c ≡ c
     stays = ap (λ (x : Origin). cond (isFrom x narrow) (narrowEnum c) c) o
@@ -203,7 +201,7 @@ plain-kept c forget narrow o p = go (eqb forget nowhere) (eqb narrow nowhere)
 
 pub untouched-kept : (w : List ℕ) (from forget narrow : ℕ) → untouchedAt w from forget narrow ≡ true → keptCell forget narrow (cellAt w from) ≡ cellAt w from
 unfolding keptCell
-untouched-kept w from forget narrow h = go (eqb forget nowhere) (eqb narrow nowhere) (plainAt w from) refl refl refl h
+untouched-kept w from forget narrow h = go (eqb forget noLocal) (eqb narrow noLocal) (plainAt w from) refl refl refl h
   where
     c : Cell
     c = cellAt w from
@@ -211,7 +209,7 @@ untouched-kept w from forget narrow h = go (eqb forget nowhere) (eqb narrow nowh
     plain : plainAt w from ≡ true → keptCell forget narrow c ≡ c
     plain p = let (o, q) = plain-says w from p in plain-kept c forget narrow o q
 
-    go : (s t u : Bool) → eqb forget nowhere ≡ s → eqb narrow nowhere ≡ t → plainAt w from ≡ u → (s && t) || u ≡ true → keptCell forget narrow c ≡ c
+    go : (s t u : Bool) → eqb forget noLocal ≡ s → eqb narrow noLocal ≡ t → plainAt w from ≡ u → (s && t) || u ≡ true → keptCell forget narrow c ≡ c
     go true true u p q r e = rw (p, q)
     go true false true p q r e = plain r
     go true false false p q r e = never e
@@ -223,7 +221,7 @@ pub map-append : (f : Cell → Cell) (xs ys : List Cell) → map f (xs ++ ys) �
 map-append f [] ys = refl
 map-append f (x ∷ xs) ys = ap (λ (l : List Cell). f x ∷ l) (map-append f xs ys)
 
-pub places-at : (w v : List ℕ) (from to n p : ℕ) → Places w from to n → p < n → length v ≡ length w → Places v (from + 16 * p) (to + 16 * p) 1
+pub places-at : (w v : List ℕ) (from to n p : ℕ) → PlacesApart w from to n → p < n → length v ≡ length w → PlacesApart v (from + 16 * p) (to + 16 * p) 1
 places-at w v from to n p s l e =
     record { source = omega (arith, s .source); target = omega (arith, s .target); apart = still (s .apart) }
   where
@@ -232,7 +230,7 @@ places-at w v from to n p s l e =
     still (inr h) = inr (omega arith)
 
 -- the first k of them, and those behind the next
-pub places-first : (w : List ℕ) (from to n k : ℕ) → Places w from to n → k ≤ n → Places w from to k
+pub places-first : (w : List ℕ) (from to n k : ℕ) → PlacesApart w from to n → k ≤ n → PlacesApart w from to k
 places-first w from to n k s l =
     record { source = omega (arith, s .source); target = omega (arith, s .target); apart = still (s .apart) }
   where
@@ -240,7 +238,7 @@ places-first w from to n k s l =
     still (inl h) = inl h
     still (inr h) = inr (omega arith)
 
-pub places-behind : (w v : List ℕ) (from to n k : ℕ) → Places w from to n → k < n → length v ≡ length w → Places v (from + 16 * (k + 1)) (to + 16 * (k + 1)) (n - k - 1)
+pub places-behind : (w v : List ℕ) (from to n k : ℕ) → PlacesApart w from to n → k < n → length v ≡ length w → PlacesApart v (from + 16 * (k + 1)) (to + 16 * (k + 1)) (n - k - 1)
 places-behind w v from to n k s l e =
     record { source = omega (arith, s .source); target = omega (arith, s .target); apart = still (s .apart) }
   where
@@ -248,7 +246,7 @@ places-behind w v from to n k s l e =
     still (inl h) = inl (omega arith)
     still (inr h) = inr (omega arith)
 
-pub kept-more : (f : Cell → Cell) (fresh : Bool) (from to n p : ℕ) (w v u : List ℕ) (a b : Bool) → Places w from to n → p < n → Arrived fresh to p (map f (cellsAt w from p)) w v a → Arrived fresh (to + 16 * p) 1 (f (cellAt v (from + 16 * p)) ∷ []) v u b → Arrived fresh to (p + 1) (map f (cellsAt w from (p + 1))) w u (a || b)
+pub kept-more : (f : Cell → Cell) (fresh : Bool) (from to n p : ℕ) (w v u : List ℕ) (a b : Bool) → PlacesApart w from to n → p < n → Arrived fresh to p (map f (cellsAt w from p)) w v a → Arrived fresh (to + 16 * p) 1 (f (cellAt v (from + 16 * p)) ∷ []) v u b → Arrived fresh to (p + 1) (map f (cellsAt w from (p + 1))) w u (a || b)
 kept-more f fresh from to n p w v u a b s l x y =
     rw (cellsAt-append w from p 1, cellsAt-one w (from + 16 * p), map-append f (cellsAt w from p) (cellAt w (from + 16 * p) ∷ []))
     (arrived-more x (rw (unread (s .apart)) at y))
@@ -275,18 +273,3 @@ pub row-more : (f : ℕ → Cell) (fresh : Bool) (to p : ℕ) (w v u : List ℕ)
 row-more f fresh to p w v u a b x y =
     let z : 0 + p ≡ p = omega arith in
     rw (row-last f 0 p, z) (arrived-more x y)
-
--- the outputs as the code picks them
-pub output-first : (m : Made) (k : ℕ) → k ≡ 0 → m .first ≡ output m k
-unfolding output
-output-first m k e = rw e
-
-pub output-second : (m : Made) (k : ℕ) → k ≡ 1 → m .second ≡ output m k
-unfolding output
-output-second m k e = rw e
-
-pub output-rest : (m : Made) (k : ℕ) → (k ≡ 0 → ⊥) → (k ≡ 1 → ⊥) → m .rest ≡ output m k
-unfolding output
-output-rest m zero p q = absurd (p refl)
-output-rest m (suc zero) p q = absurd (q refl)
-output-rest m (suc (suc k)) p q = refl

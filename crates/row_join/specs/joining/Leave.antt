@@ -9,22 +9,24 @@ use lib.Dec.{eqb}
 use lib.ListN.{length, getD, set}
 use Rattle.cells.specs.declared.Cell.{Cell}
 use Rattle.cells.specs.Cell.{narrowEnum}
+use Rattle.definition.specs.Bounds.{mostStack}
 use Rattle.definition.specs.State.{State, joinStates, sameStates}
 use Rattle.definition.specs.Ways.{outputList, resetFirst}
 use Rattle.definition.specs.Outputs.{noCell}
 use Rattle.layout.specs.declared.Chunk.{Chunk}
 use Rattle.words.specs.Layout.{cellAt}
 use Rattle.words.specs.Rows.{cellsAt}
-use Rattle.row_join.specs.places.Arrive.{nowhere, keptCell}
+use Rattle.row_join.specs.places.Arrive.{noLocal, keptCell}
 use Rattle.row_join.specs.declared.joining.Leaving.{Leaving}
 use Rattle.row_join.specs.declared.joining.SetLocal.{SetLocal}
 use Rattle.row_join.specs.declared.joining.Way.{Way}
 use Rattle.row_join.specs.declared.joining.Met.{Met}
 use Rattle.row_join.specs.declared.joining.Met.the-variants.{Same, Changed, Unequal}
+use Rattle.layout.specs.Layout.{localsAt, rowHead, stackAt}
 
 -- the locals as they leave: the one that is set or narrowed, the others without what names it
 unfoldable pub keptLocals : SetLocal → ℕ → List Cell → List Cell
-keptLocals x forget ls = set (map (keptCell forget nowhere) ls) (x .local) (x .cell)
+keptLocals x forget ls = set (map (keptCell forget noLocal) ls) (x .local) (x .cell)
 
 unfoldable pub narrowedLocal : ℕ → List Cell → SetLocal
 narrowedLocal r ls = record { local = r; cell = narrowEnum (getD ls r noCell) }
@@ -35,7 +37,7 @@ keptStack l narrow below = map (keptCell (l .set .local) narrow) below ++ output
 
 -- the local that is set, or the one that is narrowed
 unfoldable pub setOnWay : SetLocal → ℕ → List Cell → SetLocal
-setOnWay x narrow ls = cond (eqb narrow nowhere) x (narrowedLocal narrow ls)
+setOnWay x narrow ls = cond (eqb narrow noLocal) x (narrowedLocal narrow ls)
 
 -- the state that leaves
 unfoldable pub leavesKept : Leaving → ℕ → List Cell → List Cell → State
@@ -52,14 +54,14 @@ leavesReset l streams reply ls = record { stack = outputList (l .made) (l .heigh
 unfoldable pub leavesAs : List ℕ → Chunk → Way → Leaving → State
 leavesAs ws ch w l =
     cond (l .resets)
-    (leavesReset l (ch .streams) (cellAt ws 0) (cellsAt ws (w .from + 96 + 16 * ch .stack) (ch .locals)))
-    (leavesKept l (w .narrow) (cellsAt ws (w .from + 96) (w .start)) (cellsAt ws (w .from + 96 + 16 * ch .stack) (ch .locals)))
+    (leavesReset l (ch .streams) (cellAt ws 0) (cellsAt ws (localsAt (w .from) (ch .stack)) (ch .locals)))
+    (leavesKept l (w .narrow) (cellsAt ws (stackAt (w .from)) (w .start)) (cellsAt ws (localsAt (w .from) (ch .stack)) (ch .locals)))
 
 -- the state of a row: 0 says that there is none, else the height of the stack is one less
 unfoldable pub stateBy : List ℕ → ℕ → ℕ → ℕ → ℕ → Option State
 stateBy ws row stack locals zero = none
 stateBy ws row stack locals (suc h) =
-    some (record { stack = cellsAt ws (row + 96) h; locals = cellsAt ws (row + 96 + 16 * stack) locals })
+    some (record { stack = cellsAt ws (stackAt row) h; locals = cellsAt ws (localsAt row stack) locals })
 
 unfoldable pub stateIn : List ℕ → ℕ → ℕ → ℕ → Option State
 stateIn ws row stack locals = stateBy ws row stack locals (getD ws row 0)
@@ -76,7 +78,7 @@ metHow (some old) x =
 
 -- the words of a row
 abbrev pub rowWords : Chunk → ℕ
-rowWords ch = 96 + 16 * (ch .stack + ch .locals)
+rowWords ch = rowHead + 16 * (ch .stack + ch .locals)
 
 -- a row without a state gets this height, another keeps its own
 unfoldable pub metWord : ℕ → ℕ → ℕ
@@ -84,11 +86,11 @@ metWord zero height = suc height
 metWord (suc h) height = suc h
 
 -- both rows are there, one row or apart; what leaves has its places in them
-pub record Ready (ws : List ℕ) (ch : Chunk) (w : Way) (l : Leaving) : Type 0 where
+pub record JoinReady (ws : List ℕ) (ch : Chunk) (w : Way) (l : Leaving) : Type 0 where
   pub from : w .from + rowWords ch ≤ length ws
   pub to : w .to + rowWords ch ≤ length ws
   pub apart : (w .from ≡ w .to) ⊎ ((w .from + rowWords ch ≤ w .to) ⊎ (w .to + rowWords ch ≤ w .from))
   pub height : l .height ≤ ch .stack
   pub above : l .resets ≡ false → w .start ≤ l .height
-  pub stack : ch .stack ≤ 64
-  pub narrow : (w .narrow ≡ nowhere) ⊎ (w .narrow < ch .locals)
+  pub stack : ch .stack ≤ mostStack
+  pub narrow : (w .narrow ≡ noLocal) ⊎ (w .narrow < ch .locals)

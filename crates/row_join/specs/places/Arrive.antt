@@ -1,4 +1,4 @@
--- Cells that arrive at the places of a row, one behind another: what they are, and what the code of this crate shows of them.
+-- Cells that arrive at the places of a row, one behind another: what they are, and what the code of `places` shows of them.
 use Prim.Native.Nat.{ℕ, _+_, _*_, _≤_}
 use mathlib.Core.Path.{_≡_}
 use mathlib.Core.Bool.{Bool, true, false, not, cond, _&&_, _||_}
@@ -15,16 +15,16 @@ use Rattle.words.specs.Layout.{plainAt}
 use Rattle.words.specs.Rows.{cellsAt, Outside}
 
 -- no local
-abbrev pub nowhere : ℕ
-nowhere = 65535
+abbrev pub noLocal : ℕ
+noLocal = 65535
 
 -- a kept stack cell: the local that is set is forgotten; a cell that came from the local narrowed is narrowed with it
 unfoldable pub keptCell : ℕ → ℕ → Cell → Cell
-keptCell forget narrow c = cond (eqb forget nowhere) (cond (eqb narrow nowhere) c (narrowStack narrow c)) (invalidatedCell c forget)
+keptCell forget narrow c = cond (eqb forget noLocal) (cond (eqb narrow noLocal) c (narrowStack narrow c)) (invalidatedCell c forget)
 
 -- words that leave as they are: nothing is forgotten or narrowed, or nothing in them names a local
 abbrev pub untouchedAt : List ℕ → ℕ → ℕ → ℕ → Bool
-untouchedAt w from forget narrow = (eqb forget nowhere && eqb narrow nowhere) || plainAt w from
+untouchedAt w from forget narrow = (eqb forget noLocal && eqb narrow noLocal) || plainAt w from
 
 -- cells that arrive where others stand, or at a fresh row
 unfoldable pub arrive : Bool → List Cell → List Cell → List Cell
@@ -41,7 +41,7 @@ metCell true old new = record { cell = new; changed = true }
 metCell false old new = joinedCell old new
 
 -- n places to read and n to write; none is read after it was written
-pub record Places (w : List ℕ) (from to n : ℕ) : Type 0 where
+pub record PlacesApart (w : List ℕ) (from to n : ℕ) : Type 0 where
   pub source : from + 16 * n ≤ length w
   pub target : to + 16 * n ≤ length w
   pub apart : (to ≤ from) ⊎ (from + 16 * n ≤ to)

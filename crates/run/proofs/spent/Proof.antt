@@ -1,4 +1,4 @@
-use Rattle.definition.specs.Machine.{refusal}
+use Rattle.answers.specs.Answers.{refusal}
 use Prim.Native.Nat.{ℕ}
 use mathlib.Core.Path.{ap, _∙_}
 use borrow.Author.Needs.{needs}
@@ -6,7 +6,6 @@ use Rattle.run.proofs.spent.Statement.{statement}
 use Rattle.run.proofs.spent.Tie as tie
 use Rattle.run.proofs.spent.Reads as reads
 use Rattle.run.proofs.spent.Lts as lts
-use Rattle.run_state.proofs.refuse.Reads as refuse-reads
 use Rattle.ring.proofs.peek.Reads as peek-reads
 
 -- src/lib.rt:65:14

@@ -11,13 +11,12 @@ use lib.Dec.{eqb, leb}
 use lib.ListN.{length, getD, drop, drop-of-length-le}
 use lib.Seq.{drop-cons}
 use borrow.Author.Tests.{ne-eqb, eq-eqb, eqb-false}
-use Rattle.answers.specs.Answers.{nowhere}
+use Rattle.answers.specs.Answers.{nowhere, refusal}
 use Rattle.le.specs.Le.{at8}
 use Rattle.masks.specs.Names.{UNKNOWN}
 use Rattle.widths.specs.declared.Shape.{Shape}
 use Rattle.description.specs.declared.ChunkHead.{ChunkHead}
 use Rattle.description.specs.Fields.{chunkOf, tagsAt}
-use Rattle.definition.specs.Machine.{refusal}
 use Rattle.definition.specs.Module.{Module, Chunk, chunkFrom, moduleOf}
 use Rattle.definition.specs.Start.{tagMask, agree, admission, admitted}
 use Rattle.form_laws.proofs.Each.{row-length, row-at}
@@ -27,10 +26,10 @@ use Rattle.layout.specs.declared.Tables.{Tables}
 use Rattle.layout.specs.declared.Chunk.{Chunk as ChunkNumbers}
 use Rattle.layout.specs.Indexed.{Indexed, tablesOf, chunkPlace, chunkAt}
 use Rattle.layout.proofs.Read.{place-small, place-is, count-is, params-is, chunks-are}
-use Rattle.start.specs.admitting.Admitting.{Stands, Least, fitsTag, found}
+use Rattle.start.specs.admitting.Admitting.{NumbersOf, Least, fitsTag, found}
 
 -- ---- the numbers and the bytes of a chunk
-pub stands : (s ws : List ℕ) (c : ℕ) (ch : ChunkNumbers) → ch ≡ chunkAt s ws c → Stands s c ch
+pub stands : (s ws : List ℕ) (c : ℕ) (ch : ChunkNumbers) → ch ≡ chunkAt s ws c → NumbersOf s c ch
 stands s ws c ch e = record { at = place-is s ws c ch e; count = count-is s ws c ch e; params = params-is s ws c ch e }
 
 module _ (s : List ℕ) (c : ℕ) (h : c < length (moduleOf s .chunks)) where
@@ -50,7 +49,7 @@ module _ (s : List ℕ) (c : ℕ) (h : c < length (moduleOf s .chunks)) where
       ∙ row-at (λ (j : ℕ). at8 s (tagsAt (chunkPlace s c .at) + j)) 0 0 _ k (omega (arith, tags-count))
       ∙ ap (λ (j : ℕ). at8 s (tagsAt (chunkPlace s c .at) + j)) z
 
-  pub at-small : (w : ℕ) → Good s w → (ch : ChunkNumbers) → Stands s c ch → ch .at < 1048576
+  pub at-small : (w : ℕ) → Good s w → (ch : ChunkNumbers) → NumbersOf s c ch → ch .at < 1048576
   at-small w g ch x = omega (arith, x .at, place-small s c h, g .long)
 
 -- ---- type tags and shapes, one by one
@@ -96,7 +95,7 @@ agree-end ts xs n x = go (x .one)
 abbrev lacks : ℕ → ℕ → ℕ → ℕ → ℕ → Bool
 lacks signatures number count params arity = leb signatures number || (eqb count 0 || not (eqb params arity))
 
-module _ (s : List ℕ) (w : ℕ) (g : Good s w) (t : Tables) (e : t ≡ tablesOf s) (c : ℕ) (l : c < length (moduleOf s .chunks)) (ch : ChunkNumbers) (x : Stands s c ch)
+module _ (s : List ℕ) (w : ℕ) (g : Good s w) (t : Tables) (e : t ≡ tablesOf s) (c : ℕ) (l : c < length (moduleOf s .chunks)) (ch : ChunkNumbers) (x : NumbersOf s c ch)
     (h : ChunkHead) (q : h ≡ chunkOf s (ch .at)) where
   -- the head at the chunk's place
   head-is : h ≡ chunkOf s (chunkPlace s c .at)

@@ -1,5 +1,5 @@
 -- `start::declare` meets its contract.
-use Rattle.start.specs.Inputs.{DeclaredIn}
+use Rattle.start.specs.Inputs.{ChunksDeclared}
 use Rattle.start.proofs.Inputs.{declared-none, declared-more}
 use Rattle.start.proofs.Replies.{owns-is}
 use Rattle.layout.proofs.Kept.{indexed-steady}
@@ -13,7 +13,7 @@ use Rattle.start.proofs.declare.Statement.{statement}
 use Rattle.start.proofs.declare.Tie as tie
 
 abbrev Inv-loop : tie.InvT-loop
-Inv-loop s ws₀ t c₀ ws c = (c ≤ t .signatures) × DeclaredIn s ws₀ ws c
+Inv-loop s ws₀ t c₀ ws c = (c ≤ t .signatures) × ChunksDeclared s ws₀ ws c
 
 abbrev μ-loop : tie.MeasureT-loop
 μ-loop s ws₀ t c₀ ws c = t .signatures - c

@@ -12,12 +12,12 @@ use Rattle.words.proofs.RowLaws.{outside-refl, outside-trans, outside-set, outs
 use Rattle.description.specs.declared.Instr.{Instr}
 use Rattle.definition.specs.Module.{Module, Chunk, moduleOf}
 use Rattle.definition.specs.Form.{callee}
-use Rattle.definition.specs.Leaves.{noLine}
+use Rattle.definition.specs.Leaves.{noLine, lineAt}
 use Rattle.definition.specs.Start.{callsOne, suspendMore, suspendLoop}
 use Rattle.form_laws.proofs.Each.{row-at}
-use Rattle.form_laws.specs.Good.{noChunk, chunkNo, lineNo}
+use Rattle.form_laws.specs.Good.{noChunk, chunkNo}
 use Rattle.layout.specs.declared.Chunk.{Chunk as ChunkNumbers}
-use Rattle.layout.specs.Layout.{numbersAt}
+use Rattle.layout.specs.Layout.{numbersAt, wordSuspends}
 use Rattle.layout.specs.Indexed.{Indexed, suspendsAt, chunkAt}
 use Rattle.layout.proofs.Apart.{numbers-in}
 use Rattle.layout.proofs.Read.{count-is}
@@ -26,6 +26,7 @@ use Rattle.run_state.proofs.Rows.{row-set}
 use Rattle.masks.proofs.Both.{neither}
 use Rattle.rule_laws.proofs.Told.{call-callee}
 use Rattle.start.specs.suspending.Suspending.{suspendsIn, lookAt, Marked, Looked}
+use Rattle.ops.specs.Numbers.{opCall}
 
 -- ---- what is marked
 pub marked-refl : (s ws : List ℕ) → Marked s ws ws
@@ -50,16 +51,16 @@ suspends-is s ws n ch h e = ap (λ (c : ChunkNumbers). c .suspends) e ∙ sym (s
 
 -- ---- the calls of a chunk
 pub callee-there : (s ws : List ℕ) (c i : ℕ) (ch : ChunkNumbers) (ins : Instr) → Indexed s ws → c < length (moduleOf s .chunks) → ch ≡ chunkAt s ws c → i < ch .count
-    → ins ≡ lineNo (chunkNo (moduleOf s) c) i .instr → ins .op ≡ 30 → ins .a < length (moduleOf s .chunks)
+    → ins ≡ lineAt (chunkNo (moduleOf s) c) i .instr → ins .op ≡ opCall → ins .a < length (moduleOf s .chunks)
 callee-there s ws c i ch ins x h e l q o =
     let line = x .good .eachChunk c h .lines i (omega (arith, count-is s ws c ch e)) in
-    let op : lineNo (chunkNo (moduleOf s) c) i .instr .op ≡ 30 = ap (λ (y : Instr). y .op) (sym q) ∙ o in
+    let op : lineAt (chunkNo (moduleOf s) c) i .instr .op ≡ opCall = ap (λ (y : Instr). y .op) (sym q) ∙ o in
     omega (arith, line .callee (call-callee _ op), x .good .signatures, ap (λ (y : Instr). y .a) q)
 
-module _ (s ws : List ℕ) (c i : ℕ) (ch : ChunkNumbers) (e : ch ≡ chunkAt s ws c) (l : i < ch .count) (ss : List Bool) (ins : Instr) (q : ins ≡ lineNo (chunkNo (moduleOf s) c) i .instr)
-    (b : Bool) (a : b ≡ (eqb (ins .op) 30 && getD ss (ins .a) false)) where
+module _ (s ws : List ℕ) (c i : ℕ) (ch : ChunkNumbers) (e : ch ≡ chunkAt s ws c) (l : i < ch .count) (ss : List Bool) (ins : Instr) (q : ins ≡ lineAt (chunkNo (moduleOf s) c) i .instr)
+    (b : Bool) (a : b ≡ (eqb (ins .op) opCall && getD ss (ins .a) false)) where
   calls-turn : callsOne ss (drop i (chunkNo (moduleOf s) c .code)) ≡ b || callsOne ss (drop (i + 1) (chunkNo (moduleOf s) c .code))
-  unfolding callsOne lineNo
+  unfolding callsOne lineAt
   calls-turn =
       let h : i < length (chunkNo (moduleOf s) c .code) = omega (arith, count-is s ws c ch e) in
       rw (add-one i, drop-cons (chunkNo (moduleOf s) c .code) i noLine h, a, q)
@@ -103,29 +104,29 @@ module _ (s ws : List ℕ) (x : Indexed s ws) (c : ℕ) (h : c < length (moduleO
     pub look-none : b ≡ false → Looked s ws ws (lookAt s ws c) false
     look-none n = look-same s ws c _ (or-calls ∙ n ∙ sym f ∙ suspends-is s ws c ch h e)
 
-    pub look-found : b ≡ true → Looked s ws (set ws (numbersAt c + 6) 1) (lookAt s ws c) true
+    pub look-found : b ≡ true → Looked s ws (set ws (numbersAt c + wordSuspends) 1) (lookAt s ws c) true
     unfolding suspendsAt
     look-found t =
         record {
           marked =
               record {
                 kept = kept-suspends (moduleOf s) ws c 1 h;
-                outside = outside-widen 64 _ (outside-set ws (numbersAt c + 6) 1) (omega arith) (omega arith);
+                outside = outside-widen 64 _ (outside-set ws (numbersAt c + wordSuspends) 1) (omega arith) (omega arith);
               };
           suspends =
-              row-set (suspendsAt ws) (suspendsAt (set ws (numbersAt c + 6) 1)) 0 (length (moduleOf s .chunks)) c h other
+              row-set (suspendsAt ws) (suspendsAt (set ws (numbersAt c + wordSuspends) 1)) 0 (length (moduleOf s .chunks)) c h other
               ∙ ap (set (suspendsIn s ws) c) (here ∙ sym (or-calls ∙ t));
           same = λ z. absurd (true≢false z);
         }
       where
-        other : (k : ℕ) → 0 ≤ k → k < 0 + length (moduleOf s .chunks) → (k ≡ 0 + c → ⊥) → suspendsAt (set ws (numbersAt c + 6) 1) k ≡ suspendsAt ws k
-        other k l m n = ap (λ (w : ℕ). not (eqb w 0)) (getD-set-other ws (numbersAt c + 6) (numbersAt k + 6) 1 0 (λ q. n (omega arith)))
+        other : (k : ℕ) → 0 ≤ k → k < 0 + length (moduleOf s .chunks) → (k ≡ 0 + c → ⊥) → suspendsAt (set ws (numbersAt c + wordSuspends) 1) k ≡ suspendsAt ws k
+        other k l m n = ap (λ (w : ℕ). not (eqb w 0)) (getD-set-other ws (numbersAt c + wordSuspends) (numbersAt k + wordSuspends) 1 0 (λ q. n (omega arith)))
 
-        here : suspendsAt (set ws (numbersAt c + 6) 1) (0 + c) ≡ true
+        here : suspendsAt (set ws (numbersAt c + wordSuspends) 1) (0 + c) ≡ true
         here =
             let z : 0 + c ≡ c = omega arith in
-            ap (suspendsAt (set ws (numbersAt c + 6) 1)) z
-            ∙ ap (λ (w : ℕ). not (eqb w 0)) (getD-set-same ws (numbersAt c + 6) 1 0 (omega (arith, numbers-in (moduleOf s) c h, x .room)))
+            ap (suspendsAt (set ws (numbersAt c + wordSuspends) 1)) z
+            ∙ ap (λ (w : ℕ). not (eqb w 0)) (getD-set-same ws (numbersAt c + wordSuspends) 1 0 (omega (arith, numbers-in (moduleOf s) c h, x .room)))
 
 -- ---- one look at every chunk
 pub record Looking (s begin ws : List ℕ) (c : ℕ) (changed : Bool) : Type 0 where

@@ -8,18 +8,17 @@ use mathlib.Core.Logic.{_⊎_}
 use lib.Dec.{eqb}
 use lib.ListN.{length}
 use Rattle.answers.specs.declared.Refusal.{Refusal}
-use Rattle.answers.specs.Answers.{nowhere}
+use Rattle.answers.specs.Answers.{nowhere, refusal}
 use Rattle.masks.specs.Mask.{same}
 use Rattle.widths.specs.declared.Shape.{Shape}
 use Rattle.widths.specs.Shape.{shapeMask}
-use Rattle.definition.specs.Machine.{refusal}
 use Rattle.definition.specs.Module.{moduleOf}
 use Rattle.definition.specs.Start.{tagMask}
 use Rattle.form_laws.specs.Good.{chunkNo}
 use Rattle.layout.specs.declared.Chunk.{Chunk as ChunkNumbers}
 use Rattle.layout.specs.Indexed.{chunkPlace}
 
-pub record Stands (s : List ℕ) (c : ℕ) (ch : ChunkNumbers) : Type 0 where
+pub record NumbersOf (s : List ℕ) (c : ℕ) (ch : ChunkNumbers) : Type 0 where
   pub at : ch .at ≡ chunkPlace s c .at
   pub count : ch .count ≡ length (chunkNo (moduleOf s) c .code)
   pub params : ch .params ≡ length (chunkNo (moduleOf s) c .params)

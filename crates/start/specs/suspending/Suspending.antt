@@ -10,6 +10,7 @@ use Rattle.definition.specs.Start.{callsOne}
 use Rattle.form_laws.specs.Good.{chunkNo}
 use Rattle.layout.specs.Indexed.{suspendsAt}
 use Rattle.layout.proofs.Kept.{Kept}
+use Rattle.layout.specs.Layout.{headWords}
 
 abbrev pub suspendsIn : List ℕ → List ℕ → List Bool
 suspendsIn s ws = row (suspendsAt ws) 0 (length (moduleOf s .chunks))
@@ -22,7 +23,7 @@ lookAt s ws c =
 -- only the numbers of the chunks were written, and the index stays
 pub record Marked (s ws v : List ℕ) : Type 0 where
   pub kept : Kept (moduleOf s) ws v
-  pub outside : Outside 64 (64 + 16 * length (moduleOf s .chunks)) ws v
+  pub outside : Outside headWords (headWords + 16 * length (moduleOf s .chunks)) ws v
 
 -- what a look leaves, and whether it says that one more suspends
 pub record Looked (s ws v : List ℕ) (now : List Bool) (changed : Bool) : Type 0 where

@@ -21,7 +21,7 @@ returns c =
 give-requires : tie.Need-give-requires
 give-requires c κs =
     let p = c .before .before .before .before .before .before .pre in
-    (p .0, (p .1 .0, (p .1 .1 .0, (p .1 .1 .1 .0, (entry-is _ _ _ (p .0) _ (p .1 .0), p .1 .1 .1 .1)))))
+    (p .0 .looking, (p .0 .tables, (p .0 .chunk, (p .1 .0, (entry-is _ _ _ (p .0 .looking) _ (p .0 .tables), p .1 .1)))))
 
 -- src/lib.rt:105:1
 same-length : tie.Need-same-length

@@ -1,88 +1,37 @@
-use Rattle.step.specs.Alike.{isResets}
+-- `step::resets` meets its contract.
+use mathlib.Core.Path.{_≡_, refl}
+use mathlib.Core.Bool.{false}
+use mathlib.Core.List.{[], _∷_}
+use types.Run.{OneOf, miss}
+use denote.Enum.Declared.{tagOf}
+use Rattle.ops.proofs.Acts.{the-type}
+use Rattle.ops.specs.declared.Acts.{Acts}
+use Rattle.ops.specs.declared.Acts.the-variants.{Still, SetsLocal, Yields, Calls, Returns, Resets, Stores}
+use Rattle.definition.specs.Ways.{isReset}
 use borrow.Author.Needs.{needs}
 use Rattle.step.proofs.resets.Statement.{statement}
 use Rattle.step.proofs.resets.Tie as tie
-use Rattle.step.proofs.resets.Reads as reads
-use Rattle.step.proofs.resets.Lts as lts
 
--- src/lib.rt:51:24
 enum-told : tie.Need-enum-told
 enum-told c = search needs
 
--- src/lib.rt:52:28
-enum-told-2 : tie.Need-enum-told-2
-enum-told-2 c = search needs
-
--- src/lib.rt:53:25
-enum-told-3 : tie.Need-enum-told-3
-enum-told-3 c = search needs
-
--- src/lib.rt:54:24
-enum-told-4 : tie.Need-enum-told-4
-enum-told-4 c = search needs
-
--- src/lib.rt:55:26
-enum-told-5 : tie.Need-enum-told-5
-enum-told-5 c = search needs
-
--- src/lib.rt:56:25
-enum-told-6 : tie.Need-enum-told-6
-enum-told-6 c = search needs
-
--- src/lib.rt:57:25
-enum-told-7 : tie.Need-enum-told-7
-enum-told-7 c = search needs
-
--- src/lib.rt:45:1
 returns : tie.Need-returns
-unfolding isResets
-returns c = search needs
+unfolding isReset
+returns c = rw (c .enum-told .given .1)
 
--- src/lib.rt:45:1
+-- any other
+others : (a : Acts) → OneOf (0 ∷ 1 ∷ 2 ∷ 3 ∷ 4 ∷ 6 ∷ []) (tagOf the-type a) → false ≡ isReset a
+unfolding isReset
+others Still h = refl
+others SetsLocal h = refl
+others Yields h = refl
+others Calls h = refl
+others Returns h = refl
+others Resets h = absurd (miss (0 ∷ 1 ∷ 2 ∷ 3 ∷ 4 ∷ 6 ∷ []) 5 tt h)
+others Stores h = refl
+
 returns-2 : tie.Need-returns-2
-unfolding isResets
-returns-2 c = search needs
-
--- src/lib.rt:45:1
-returns-3 : tie.Need-returns-3
-unfolding isResets
-returns-3 c = search needs
-
--- src/lib.rt:45:1
-returns-4 : tie.Need-returns-4
-unfolding isResets
-returns-4 c = search needs
-
--- src/lib.rt:45:1
-returns-5 : tie.Need-returns-5
-unfolding isResets
-returns-5 c = search needs
-
--- src/lib.rt:45:1
-returns-6 : tie.Need-returns-6
-unfolding isResets
-returns-6 c = search needs
-
--- src/lib.rt:45:1
-returns-7 : tie.Need-returns-7
-unfolding isResets
-returns-7 c = search needs
+returns-2 c = others (c .before .before .args .v .rule .acts) (c .match .keys2)
 
 pub resets-spec : {M : Type 1} → statement M
-resets-spec =
-    tie.close
-    (tie.spec
-    enum-told
-    enum-told-2
-    enum-told-3
-    enum-told-4
-    enum-told-5
-    enum-told-6
-    enum-told-7
-    returns
-    returns-2
-    returns-3
-    returns-4
-    returns-5
-    returns-6
-    returns-7)
+resets-spec = tie.close (tie.spec enum-told returns returns-2)

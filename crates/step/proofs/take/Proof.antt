@@ -79,7 +79,13 @@ visited-requires : tie.Need-visited-requires
 visited-requires c κs =
     let p = c .before .before .before .before .before .before .before .before .before .before .before .before .before .before .before .before .pre in
     let v = c .before .visit-at .ensures in
-    (p .0, (v .0, (v .1, (p .1 .1 .0, (c .before .before .before .before .before .before .before .before .before .before .before .before .chunk-at .ensures ∙ ap (chunkAt _ _) (sym (v .1)), (rw (v .1) (popped-queued _ _ _ _ (p .0) (p .1 .0) (p .1 .1 .0) _ (c .before .before .before .before .before .before .before .popped .ensures)), p .1 .1 .1))))))
+    record {
+      between = p .0;
+      visiting = record { looking = v .0; tables = p .1 .1 .0; chunk = c .before .before .before .before .before .before .before .before .before .before .before .before .chunk-at .ensures ∙ ap (chunkAt _ _) (sym (v .1)) };
+      same = v .1;
+      queued = rw (v .1) (popped-queued _ _ _ _ (p .0) (p .1 .0) (p .1 .1 .0) _ (c .before .before .before .before .before .before .before .popped .ensures));
+      steps = p .1 .1 .1;
+    }
 
 -- src/lib.rt:171:1
 same-length-2 : tie.Need-same-length-2

@@ -14,7 +14,7 @@ use Rattle.checks.proofs.proven.Reads as proven-reads
 proven-requires : tie.Need-proven-requires
 proven-requires c κs =
     let p = c .before .before .before .before .before .pre in
-    (p .0, (p .1 .0, (p .1 .1 .0, (entry-is _ _ _ (p .0) _ (p .1 .0), p .1 .1 .1))))
+    (p .0 .looking, (p .0 .tables, (p .0 .chunk, (entry-is _ _ _ (p .0 .looking) _ (p .0 .tables), p .1))))
 
 -- src/lib.rt:80:9
 returns : tie.Need-returns

@@ -12,12 +12,12 @@ use Rattle.definition.specs.Outputs.{noCell, arg, instr, constructedExtent}
 use Rattle.definition.specs.Leaves.{visitOf}
 use Rattle.layout.specs.declared.Tables.{Tables}
 use Rattle.layout.specs.Indexed.{tablesOf}
-use Rattle.visit.specs.declared.Visit.{Visit as Look}
+use Rattle.visit.specs.declared.RowVisit.{RowVisit}
 use Rattle.visit.specs.Held.{Looking, argsIn, factsIn, knownIn, visitIn}
 use Rattle.visit.proofs.Visits.{args-are}
 use Rattle.layout.proofs.Read.{float-is}
 
-module _ (s ws : List ℕ) (v : Look) where
+module _ (s ws : List ℕ) (v : RowVisit) where
   pub code-is : visitIn s ws v .code ≡ moduleOf s
   unfolding visitIn visitOf knownIn
   code-is = refl

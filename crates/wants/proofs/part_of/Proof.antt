@@ -1,6 +1,6 @@
 -- `wants::part_of` meets its contract.
 use borrow.Author.Tests.{lt-ltb, le-ltb}
-use Rattle.wants.specs.Wants.{partBy}
+use Rattle.definition.specs.Wants.{partWant}
 use borrow.Author.Needs.{needs}
 use Rattle.wants.proofs.part_of.Statement.{statement}
 use Rattle.wants.proofs.part_of.Tie as tie
@@ -9,14 +9,14 @@ never-requires : tie.Need-never-requires
 never-requires c κs = search needs
 
 returns : tie.Need-returns
-unfolding partBy
+unfolding partWant
 returns c = rw (lt-ltb _ _ (c .before .if1 .taken)) (c .never .ensures)
 
 one-requires : tie.Need-one-requires
 one-requires c κs = search needs
 
 returns-2 : tie.Need-returns-2
-unfolding partBy
+unfolding partWant
 returns-2 c = rw (le-ltb _ _ (c .before .if1 .left)) (c .one .ensures)
 
 pub part-of-spec : {M : Type 1} → statement M

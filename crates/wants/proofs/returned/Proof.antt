@@ -1,18 +1,18 @@
 -- `wants::returned` meets its contract.
-use Rattle.wants.specs.Wants.{returnedBy}
+use Rattle.definition.specs.Wants.{returnedWant}
 use borrow.Author.Needs.{needs}
 use Rattle.wants.proofs.returned.Statement.{statement}
 use Rattle.wants.proofs.returned.Tie as tie
 
 returns : tie.Need-returns
-unfolding returnedBy
+unfolding returnedWant
 returns c = rw (c .if1 .taken)
 
 nothing-requires : tie.Need-nothing-requires
 nothing-requires c κs = search needs
 
 returns-2 : tie.Need-returns-2
-unfolding returnedBy
+unfolding returnedWant
 returns-2 c = rw (c .before .if1 .left) (c .nothing .ensures)
 
 pub returned-spec : {M : Type 1} → statement M

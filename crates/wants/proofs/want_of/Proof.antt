@@ -1,5 +1,5 @@
 -- `wants::want_of` meets its contract.
-use Rattle.wants.specs.Wants.{wantBy}
+use Rattle.definition.specs.Wants.{wantBy}
 use borrow.Author.Needs.{needs}
 use Rattle.wants.proofs.want_of.Statement.{statement}
 use Rattle.wants.proofs.want_of.Tie as tie

@@ -1,7 +1,7 @@
 use mathlib.Core.Path.{_≡_, refl}
 use Rattle.start.specs.declared.Started.the-variants.{Ready}
 use Rattle.start.specs.declared.Started.the-variants.{Refused as NotStarted}
-use Rattle.run.specs.declared.Ran.the-variants.{Done, Stop}
+use Rattle.run.specs.declared.RunEnd.the-variants.{Done, Stop}
 use Rattle.call.proofs.analyzing.Laws.{run-ready, ended-here, faultless-here, told-early, told-stopped, told-done}
 use borrow.Author.Needs.{needs}
 use Rattle.call.proofs.analyzing.analyze.Statement.{statement}

@@ -8,7 +8,7 @@ use Rattle.ops.specs.declared.Asks.{Asks}
 use Rattle.ops.specs.declared.Asks.the-variants.{Free, First, Both, Yielded, Returned, Every, Ordered, Same, Stored, PartOf, Never}
 use Rattle.masks.specs.declared.Mask.{Mask}
 use Rattle.masks.specs.Names.{NONE}
-use Rattle.checks.specs.asked.Proving.{declaredBy}
+use Rattle.definition.specs.Wants.{declaredKinds}
 use borrow.Author.Needs.{needs}
 use Rattle.checks.proofs.asked.declared_mask.Statement.{statement}
 use Rattle.checks.proofs.asked.declared_mask.Tie as tie
@@ -26,16 +26,16 @@ result-mask-requires : tie.Need-result-mask-requires
 result-mask-requires c κs = search needs
 
 returns : tie.Need-returns
-unfolding declaredBy
+unfolding declaredKinds
 returns c = rw (c .before .enum-told .given .1) (c .yielded-mask .ensures)
 
 returns-2 : tie.Need-returns-2
-unfolding declaredBy
+unfolding declaredKinds
 returns-2 c = rw (c .before .enum-told2 .given .1) (c .result-mask .ensures)
 
 -- any other
-none-declared : (a : Asks) (y r : Mask) → OneOf (0 ∷ 1 ∷ 2 ∷ 5 ∷ 6 ∷ 7 ∷ 8 ∷ 9 ∷ 10 ∷ []) (tagOf the-type a) → NONE ≡ declaredBy a y r
-unfolding declaredBy
+none-declared : (a : Asks) (y r : Mask) → OneOf (0 ∷ 1 ∷ 2 ∷ 5 ∷ 6 ∷ 7 ∷ 8 ∷ 9 ∷ 10 ∷ []) (tagOf the-type a) → NONE ≡ declaredKinds a y r
+unfolding declaredKinds
 none-declared Free y r h = refl
 none-declared (First m) y r h = refl
 none-declared (Both m n) y r h = refl

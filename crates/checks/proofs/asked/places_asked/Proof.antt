@@ -7,7 +7,7 @@ use denote.Enum.Declared.{tagOf}
 use Rattle.definition.proofs.Ask.{the-type}
 use Rattle.definition.specs.declared.Ask.{Ask}
 use Rattle.definition.specs.declared.Ask.the-variants.{Nothing, First, Both, Every, Below, Writes, WritesIndexed, Never}
-use Rattle.visit.specs.declared.Visit.{Visit as Look}
+use Rattle.visit.specs.declared.RowVisit.{RowVisit}
 use Rattle.checks.specs.declared.asked.Places.{Places}
 use Rattle.checks.specs.asked.Proving.{placesBy}
 use borrow.Author.Needs.{needs}
@@ -25,7 +25,7 @@ unfolding placesBy
 returns c = rw (c .before .enum-told .given .1)
 
 -- any other ask
-the-operands : (v : Look) (a : Ask) → OneOf (0 ∷ 1 ∷ 2 ∷ 3 ∷ 5 ∷ 6 ∷ 7 ∷ []) (tagOf the-type a) → _≡_ {A = Places} (record { from = v .start; end = v .height }) (placesBy v a)
+the-operands : (v : RowVisit) (a : Ask) → OneOf (0 ∷ 1 ∷ 2 ∷ 3 ∷ 5 ∷ 6 ∷ 7 ∷ []) (tagOf the-type a) → _≡_ {A = Places} (record { from = v .start; end = v .height }) (placesBy v a)
 unfolding placesBy
 the-operands v Nothing h = refl
 the-operands v First h = refl

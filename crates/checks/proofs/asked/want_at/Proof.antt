@@ -13,8 +13,8 @@ common-kinds-requires c κs =
     let a = c .before .before .before .args in
     looking-standing (now (a .s)) (now (a .ws)) (a .v) (c .before .before .before .pre .0)
 
-ends-kinds-requires : tie.Need-ends-kinds-requires
-ends-kinds-requires c κs =
+pair-kinds-requires : tie.Need-pair-kinds-requires
+pair-kinds-requires c κs =
     let a = c .before .before .before .before .args in
     looking-standing (now (a .s)) (now (a .ws)) (a .v) (c .before .before .before .before .pre .0)
 
@@ -32,15 +32,15 @@ returns c =
     let a = c .before .before .before .before .before .before .before .args in
     c .want-of .ensures
     ∙ want-is (now (a .s)) (now (a .ws)) (a .v) (c .before .before .before .before .before .before .before .pre .0) (a .ch) (c .before .before .before .before .before .before .before .pre .1 .0)
-    (c .before .before .before .common-kinds .result) (c .before .before .ends-kinds .result) (c .before .declared-mask .result) (a .entry)
-    (c .before .before .before .common-kinds .ensures) (c .before .before .ends-kinds .ensures) (c .before .declared-mask .ensures) (c .before .before .before .before .before .before .before .pre .1 .1)
+    (c .before .before .before .common-kinds .result) (c .before .before .pair-kinds .result) (c .before .declared-mask .result) (a .entry)
+    (c .before .before .before .common-kinds .ensures) (c .before .before .pair-kinds .ensures) (c .before .declared-mask .ensures) (c .before .before .before .before .before .before .before .pre .1 .1)
 
 pub want-at-spec : {M : Type 1} → statement M
 want-at-spec =
     tie.close
     (tie.spec
     common-kinds-requires
-    ends-kinds-requires
+    pair-kinds-requires
     declared-mask-requires
     want-of-requires
     returns)

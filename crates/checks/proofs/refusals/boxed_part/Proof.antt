@@ -1,5 +1,14 @@
 -- `checks::refusals::boxed_part` meets its contract.
-use Rattle.checks.specs.refusals.Never.{hopelessBy}
+use Prim.Native.Nat.{ℕ}
+use mathlib.Core.Path.{_≡_, refl}
+use mathlib.Core.Bool.{false}
+use mathlib.Core.List.{[], _∷_}
+use types.Run.{OneOf, miss}
+use denote.Enum.Declared.{tagOf}
+use Rattle.ops.proofs.Asks.{the-type}
+use Rattle.ops.specs.declared.Asks.{Asks}
+use Rattle.ops.specs.declared.Asks.the-variants.{Free, First, Both, Yielded, Returned, Every, Ordered, Same, Stored, PartOf, Never}
+use Rattle.definition.specs.Leaves.{hopeless}
 use borrow.Author.Needs.{needs}
 use Rattle.checks.proofs.refusals.boxed_part.Statement.{statement}
 use Rattle.checks.proofs.refusals.boxed_part.Tie as tie
@@ -10,100 +19,31 @@ enum-told c = search needs
 enum-told-2 : tie.Need-enum-told-2
 enum-told-2 c = search needs
 
-enum-told-3 : tie.Need-enum-told-3
-enum-told-3 c = search needs
-
-enum-told-4 : tie.Need-enum-told-4
-enum-told-4 c = search needs
-
-enum-told-5 : tie.Need-enum-told-5
-enum-told-5 c = search needs
-
-enum-told-6 : tie.Need-enum-told-6
-enum-told-6 c = search needs
-
-enum-told-7 : tie.Need-enum-told-7
-enum-told-7 c = search needs
-
-enum-told-8 : tie.Need-enum-told-8
-enum-told-8 c = search needs
-
-enum-told-9 : tie.Need-enum-told-9
-enum-told-9 c = search needs
-
-enum-told-10 : tie.Need-enum-told-10
-enum-told-10 c = search needs
-
-enum-told-11 : tie.Need-enum-told-11
-enum-told-11 c = search needs
-
 returns : tie.Need-returns
-unfolding hopelessBy
+unfolding hopeless
 returns c = rw (c .enum-told .given .1)
 
 returns-2 : tie.Need-returns-2
-unfolding hopelessBy
+unfolding hopeless
 returns-2 c = rw (c .enum-told2 .given .1)
 
+-- any other
+others : (a : Asks) (form : ℕ) → OneOf (0 ∷ 1 ∷ 2 ∷ 3 ∷ 4 ∷ 5 ∷ 6 ∷ 7 ∷ 8 ∷ []) (tagOf the-type a) → false ≡ hopeless a form
+unfolding hopeless
+others Free form h = refl
+others (First m) form h = refl
+others (Both m n) form h = refl
+others Yielded form h = refl
+others Returned form h = refl
+others (Every m) form h = refl
+others Ordered form h = refl
+others (Same k) form h = refl
+others Stored form h = refl
+others (PartOf k) form h = absurd (miss (0 ∷ 1 ∷ 2 ∷ 3 ∷ 4 ∷ 5 ∷ 6 ∷ 7 ∷ 8 ∷ []) 9 tt h)
+others Never form h = absurd (miss (0 ∷ 1 ∷ 2 ∷ 3 ∷ 4 ∷ 5 ∷ 6 ∷ 7 ∷ 8 ∷ []) 10 tt h)
+
 returns-3 : tie.Need-returns-3
-unfolding hopelessBy
-returns-3 c = rw (c .enum-told3 .given .1)
-
-returns-4 : tie.Need-returns-4
-unfolding hopelessBy
-returns-4 c = rw (c .enum-told4 .given .1)
-
-returns-5 : tie.Need-returns-5
-unfolding hopelessBy
-returns-5 c = rw (c .enum-told5 .given .1)
-
-returns-6 : tie.Need-returns-6
-unfolding hopelessBy
-returns-6 c = rw (c .enum-told6 .given .1)
-
-returns-7 : tie.Need-returns-7
-unfolding hopelessBy
-returns-7 c = rw (c .enum-told7 .given .1)
-
-returns-8 : tie.Need-returns-8
-unfolding hopelessBy
-returns-8 c = rw (c .enum-told8 .given .1)
-
-returns-9 : tie.Need-returns-9
-unfolding hopelessBy
-returns-9 c = rw (c .enum-told9 .given .1)
-
-returns-10 : tie.Need-returns-10
-unfolding hopelessBy
-returns-10 c = rw (c .enum-told10 .given .1)
-
-returns-11 : tie.Need-returns-11
-unfolding hopelessBy
-returns-11 c = rw (c .enum-told11 .given .1)
+returns-3 c = others (c .before .args .asks) _ (c .match .keys3)
 
 pub boxed-part-spec : {M : Type 1} → statement M
-boxed-part-spec =
-    tie.close
-    (tie.spec
-    enum-told
-    enum-told-2
-    enum-told-3
-    enum-told-4
-    enum-told-5
-    enum-told-6
-    enum-told-7
-    enum-told-8
-    enum-told-9
-    enum-told-10
-    enum-told-11
-    returns
-    returns-2
-    returns-3
-    returns-4
-    returns-5
-    returns-6
-    returns-7
-    returns-8
-    returns-9
-    returns-10
-    returns-11)
+boxed-part-spec = tie.close (tie.spec enum-told enum-told-2 returns returns-2 returns-3)

@@ -1,5 +1,13 @@
 -- `checks::refusals::returns` meets its contract.
-use Rattle.checks.specs.refusals.Never.{isReturn}
+use mathlib.Core.Path.{_≡_, refl}
+use mathlib.Core.Bool.{false}
+use mathlib.Core.List.{[], _∷_}
+use types.Run.{OneOf, miss}
+use denote.Enum.Declared.{tagOf}
+use Rattle.ops.proofs.Acts.{the-type}
+use Rattle.ops.specs.declared.Acts.{Acts}
+use Rattle.ops.specs.declared.Acts.the-variants.{Still, SetsLocal, Yields, Calls, Returns, Resets, Stores}
+use Rattle.definition.specs.Leaves.{isReturn}
 use borrow.Author.Needs.{needs}
 use Rattle.checks.proofs.refusals.returns.Statement.{statement}
 use Rattle.checks.proofs.refusals.returns.Tie as tie
@@ -7,67 +15,23 @@ use Rattle.checks.proofs.refusals.returns.Tie as tie
 enum-told : tie.Need-enum-told
 enum-told c = search needs
 
-enum-told-2 : tie.Need-enum-told-2
-enum-told-2 c = search needs
-
-enum-told-3 : tie.Need-enum-told-3
-enum-told-3 c = search needs
-
-enum-told-4 : tie.Need-enum-told-4
-enum-told-4 c = search needs
-
-enum-told-5 : tie.Need-enum-told-5
-enum-told-5 c = search needs
-
-enum-told-6 : tie.Need-enum-told-6
-enum-told-6 c = search needs
-
-enum-told-7 : tie.Need-enum-told-7
-enum-told-7 c = search needs
-
 returns : tie.Need-returns
 unfolding isReturn
 returns c = rw (c .enum-told .given .1)
 
+-- any other
+others : (a : Acts) → OneOf (0 ∷ 1 ∷ 2 ∷ 3 ∷ 5 ∷ 6 ∷ []) (tagOf the-type a) → false ≡ isReturn a
+unfolding isReturn
+others Still h = refl
+others SetsLocal h = refl
+others Yields h = refl
+others Calls h = refl
+others Returns h = absurd (miss (0 ∷ 1 ∷ 2 ∷ 3 ∷ 5 ∷ 6 ∷ []) 4 tt h)
+others Resets h = refl
+others Stores h = refl
+
 returns-2 : tie.Need-returns-2
-unfolding isReturn
-returns-2 c = rw (c .enum-told2 .given .1)
-
-returns-3 : tie.Need-returns-3
-unfolding isReturn
-returns-3 c = rw (c .enum-told3 .given .1)
-
-returns-4 : tie.Need-returns-4
-unfolding isReturn
-returns-4 c = rw (c .enum-told4 .given .1)
-
-returns-5 : tie.Need-returns-5
-unfolding isReturn
-returns-5 c = rw (c .enum-told5 .given .1)
-
-returns-6 : tie.Need-returns-6
-unfolding isReturn
-returns-6 c = rw (c .enum-told6 .given .1)
-
-returns-7 : tie.Need-returns-7
-unfolding isReturn
-returns-7 c = rw (c .enum-told7 .given .1)
+returns-2 c = others (c .before .args .acts) (c .match .keys2)
 
 pub returns-spec : {M : Type 1} → statement M
-returns-spec =
-    tie.close
-    (tie.spec
-    enum-told
-    enum-told-2
-    enum-told-3
-    enum-told-4
-    enum-told-5
-    enum-told-6
-    enum-told-7
-    returns
-    returns-2
-    returns-3
-    returns-4
-    returns-5
-    returns-6
-    returns-7)
+returns-spec = tie.close (tie.spec enum-told returns returns-2)

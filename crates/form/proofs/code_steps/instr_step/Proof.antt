@@ -17,36 +17,36 @@ instr-fault-requires c κs = search needs
 before-requires : tie.Need-before-requires
 before-requires c κs = search needs
 
+add-next : tie.Need-add-next
+add-next c = search needs
+
+cast-next : tie.Need-cast-next
+cast-next c = search needs
+
+add-next-2 : tie.Need-add-next-2
+add-next-2 c = search needs
+
+cast-next-2 : tie.Need-cast-next-2
+cast-next-2 c = search needs
+
+add-next-3 : tie.Need-add-next-3
+add-next-3 c = omega (arith, c .before .before .before .before .before .before .before .before .before .before .before .pre .1 .cells, c .before .before .before .before .before .before .before .before .before .before .before .pre .1 .locals, c .before .before .before .before .before .before .before .before .before .before .before .pre .1 .stack)
+
+add-next-4 : tie.Need-add-next-4
+add-next-4 c = omega (arith, c .before .before .before .before .before .before .before .before .before .before .before .pre .1 .cells, c .before .before .before .before .before .before .before .before .before .before .before .pre .1 .locals, c .before .before .before .before .before .before .before .before .before .before .before .pre .1 .stack)
+
 cast-in-field : tie.Need-cast-in-field
-cast-in-field c = search needs
+cast-in-field c = omega (arith, c .before .before .before .before .before .before .before .before .before .before .before .before .pre .1 .instrs)
 
 in-field-requires : tie.Need-in-field-requires
 in-field-requires c κs = search needs
-
-add-t12 : tie.Need-add-t12
-add-t12 c = search needs
-
-cast-t13 : tie.Need-cast-t13
-cast-t13 c = search needs
-
-add-t14 : tie.Need-add-t14
-add-t14 c = omega (arith, c .before .before .before .before .before .before .before .before .before .before .before .before .pre .1 .cells, c .before .before .before .before .before .before .before .before .before .before .before .before .pre .1 .locals)
-
-cast-t15 : tie.Need-cast-t15
-cast-t15 c = search needs
-
-add-t16 : tie.Need-add-t16
-add-t16 c = omega (arith, c .before .before .before .before .before .before .before .before .before .before .before .before .before .pre .1 .cells, c .before .before .before .before .before .before .before .before .before .before .before .before .before .pre .1 .locals, c .before .before .before .before .before .before .before .before .before .before .before .before .before .pre .1 .stack)
-
-add-t17 : tie.Need-add-t17
-add-t17 c = omega (arith, c .before .before .before .before .before .before .before .before .before .before .before .before .before .pre .1 .cells, c .before .before .before .before .before .before .before .before .before .before .before .before .before .pre .1 .locals, c .before .before .before .before .before .before .before .before .before .before .before .before .before .pre .1 .stack)
 
 or-stop-requires : tie.Need-or-stop-requires
 or-stop-requires c κs = search needs
 
 returns : tie.Need-returns
 unfolding instrStep
-returns c = rw (c .before .before .before .before .before .in-field .ensures, c .before .before .before .before .before .before .before .before2 .ensures, c .before .before .before .before .before .before .before .before .instr-fault .ensures, c .before .before .before .before .before .before .before .before .before .len-at .ensures, c .before .before .before .before .before .before .before .before .before .before .before .before .instr-at .ensures) at (c .or-stop .ensures)
+returns c = rw (c .before .in-field .ensures, c .before .before .before .before .before .before .before .before2 .ensures, c .before .before .before .before .before .before .before .before .instr-fault .ensures, c .before .before .before .before .before .before .before .before .before .len-at .ensures, c .before .before .before .before .before .before .before .before .before .before .before .before .instr-at .ensures) at (c .or-stop .ensures)
 
 pub instr-step-spec : {M : Type 1} → statement M
 instr-step-spec =
@@ -56,13 +56,13 @@ instr-step-spec =
     len-at-requires
     instr-fault-requires
     before-requires
+    add-next
+    cast-next
+    add-next-2
+    cast-next-2
+    add-next-3
+    add-next-4
     cast-in-field
     in-field-requires
-    add-t12
-    cast-t13
-    add-t14
-    cast-t15
-    add-t16
-    add-t17
     or-stop-requires
     returns)

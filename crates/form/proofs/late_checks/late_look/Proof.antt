@@ -4,6 +4,7 @@ use Prim.Native.Nat.{_-_}
 use native.Mathlib.Omega.{arith}
 use lib.ListN.{length}
 use Rattle.description.specs.Fields.{fieldsFrom}
+use Rattle.answers.specs.Answers.{inField}
 use Rattle.definition.specs.Form.{lateLook}
 use Rattle.form.specs.late_checks.Counted.{paramList}
 use Rattle.form.proofs.late_checks.Looks.{look-table, Looking, chunk-room, look-chunk, instr-room, look-instr, look-fault, look-other, look-end}
@@ -41,13 +42,17 @@ faulty-requires c κs = search needs
 before-requires : tie.Need-before-requires Inv-loop μ-loop
 before-requires c κs = search needs
 
+in-field-requires : tie.Need-in-field-requires Inv-loop μ-loop
+in-field-requires c κs = search needs
+
 returns : tie.Need-returns Inv-loop μ-loop
+unfolding inField
 returns c =
-    let l = c .before .before .before .before .before .before .before .before in
-    rw (c .before2 .ensures)
-    (look-fault _ _ _ _ _ _ (c .before .before .before .before .before .before .before .loop-test .taken) (l .loop .inv)
-    (sym (c .before .before .before .before .before .before .tag-at .ensures) ∙ c .before .before .before .if2 .taken)
-    (sym (c .before .before .faulty .ensures) ∙ c .before .if3 .taken))
+    let l = c .before .before .before .before .before .before .before .before .before in
+    rw (c .in-field .ensures, c .before .before2 .ensures)
+    (look-fault _ _ _ _ _ _ (c .before .before .before .before .before .before .before .before .loop-test .taken) (l .loop .inv)
+    (sym (c .before .before .before .before .before .before .before .tag-at .ensures) ∙ c .before .before .before .before .if2 .taken)
+    (sym (c .before .before .before .faulty .ensures) ∙ c .before .before .if3 .taken))
 
 add-instr : tie.Need-add-instr Inv-loop μ-loop
 add-instr c =
@@ -107,6 +112,7 @@ late-look-spec =
     add-chunk
     faulty-requires
     before-requires
+    in-field-requires
     returns
     add-instr
     loop-less

@@ -4,8 +4,8 @@ use borrow.Author.Needs.{needs}
 use Rattle.form_rules.proofs.contents.chunk_len.Statement.{statement}
 use Rattle.form_rules.proofs.contents.chunk_len.Tie as tie
 
-wide-requires : tie.Need-wide-requires
-wide-requires c κs = search needs
+wide-size-requires : tie.Need-wide-size-requires
+wide-size-requires c κs = search needs
 
 add-result : tie.Need-add-result
 add-result c = search needs
@@ -13,8 +13,8 @@ add-result c = search needs
 params-of-requires : tie.Need-params-of-requires
 params-of-requires c κs = search needs
 
-wide-requires-2 : tie.Need-wide-requires-2
-wide-requires-2 c κs = search needs
+wide-size-requires-2 : tie.Need-wide-size-requires-2
+wide-size-requires-2 c κs = search needs
 
 mul-result : tie.Need-mul-result
 mul-result c = search needs
@@ -26,8 +26,8 @@ returns : tie.Need-returns
 unfolding chunkLen
 returns c = rw (c .before .before .before .if1 .taken) (cc)
 
-wide-requires-3 : tie.Need-wide-requires-3
-wide-requires-3 c κs = search needs
+wide-size-requires-3 : tie.Need-wide-size-requires-3
+wide-size-requires-3 c κs = search needs
 
 add-result-3 : tie.Need-add-result-3
 add-result-3 c = search needs
@@ -40,13 +40,13 @@ pub chunk-len-spec : {M : Type 1} → statement M
 chunk-len-spec =
     tie.close
     (tie.spec
-    wide-requires
+    wide-size-requires
     add-result
     params-of-requires
-    wide-requires-2
+    wide-size-requires-2
     mul-result
     add-result-2
     returns
-    wide-requires-3
+    wide-size-requires-3
     add-result-3
     returns-2)

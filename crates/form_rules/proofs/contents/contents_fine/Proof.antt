@@ -14,8 +14,8 @@ same-length-requires c κs = search needs
 tags-at-requires : tie.Need-tags-at-requires
 tags-at-requires c κs = search needs
 
-wide-requires : tie.Need-wide-requires
-wide-requires c κs = search needs
+wide-size-requires : tie.Need-wide-size-requires
+wide-size-requires c κs = search needs
 
 tags-fine-requires : tie.Need-tags-fine-requires
 unfolding tagsAt
@@ -34,7 +34,7 @@ contents-fine-spec =
     chunk-len-requires
     same-length-requires
     tags-at-requires
-    wide-requires
+    wide-size-requires
     tags-fine-requires
     signature-fine-requires
     returns)

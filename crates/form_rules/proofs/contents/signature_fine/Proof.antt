@@ -13,8 +13,8 @@ add-shapes-fine c = search needs
 params-of-requires : tie.Need-params-of-requires
 params-of-requires c κs = search needs
 
-wide-requires : tie.Need-wide-requires
-wide-requires c κs = search needs
+wide-size-requires : tie.Need-wide-size-requires
+wide-size-requires c κs = search needs
 
 add-shapes-fine-2 : tie.Need-add-shapes-fine-2
 add-shapes-fine-2 c = search needs
@@ -37,7 +37,7 @@ signature-fine-spec =
     params-at-requires
     add-shapes-fine
     params-of-requires
-    wide-requires
+    wide-size-requires
     add-shapes-fine-2
     shapes-fine-requires
     returns

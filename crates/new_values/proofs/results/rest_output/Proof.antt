@@ -1,5 +1,5 @@
 -- `new_values::results::rest_output` meets its contract.
-use Rattle.new_values.specs.results.Made.{restBy}
+use Rattle.definition.specs.Outputs.{restOutput}
 use borrow.Author.Needs.{needs}
 use Rattle.new_values.proofs.results.rest_output.Statement.{statement}
 use Rattle.new_values.proofs.results.rest_output.Tie as tie
@@ -38,27 +38,27 @@ made-requires-5 : tie.Need-made-requires-5
 made-requires-5 c κs = search needs
 
 returns : tie.Need-returns
-unfolding restBy
+unfolding restOutput
 returns c = rw (c .before .enum-told .given .1) (c .made .ensures)
 
 returns-2 : tie.Need-returns-2
-unfolding restBy
+unfolding restOutput
 returns-2 c = rw (c .before .enum-told2 .given .1) (c .made2 .ensures)
 
 returns-3 : tie.Need-returns-3
-unfolding restBy
+unfolding restOutput
 returns-3 c = rw (c .before .enum-told3 .given .1) (c .made3 .ensures)
 
 returns-4 : tie.Need-returns-4
-unfolding restBy
+unfolding restOutput
 returns-4 c = rw (c .enum-told4 .given .1)
 
 returns-5 : tie.Need-returns-5
-unfolding restBy
+unfolding restOutput
 returns-5 c = rw (c .before .enum-told5 .given .1) (c .made4 .ensures)
 
 returns-6 : tie.Need-returns-6
-unfolding restBy
+unfolding restOutput
 returns-6 c = rw (c .before .enum-told6 .given .1) (c .made5 .ensures)
 
 pub rest-output-spec : {M : Type 1} → statement M

@@ -1,5 +1,5 @@
 -- `new_values::results::second_output` meets its contract.
-use Rattle.new_values.specs.results.Made.{secondBy}
+use Rattle.definition.specs.Outputs.{secondOutput}
 use borrow.Author.Needs.{needs}
 use Rattle.new_values.proofs.results.second_output.Statement.{statement}
 use Rattle.new_values.proofs.results.second_output.Tie as tie
@@ -41,27 +41,27 @@ made-requires-4 : tie.Need-made-requires-4
 made-requires-4 c κs = search needs
 
 returns : tie.Need-returns
-unfolding secondBy
+unfolding secondOutput
 returns c = rw (c .before .enum-told .given .1) (c .made .ensures)
 
 returns-2 : tie.Need-returns-2
-unfolding secondBy
+unfolding secondOutput
 returns-2 c = rw (c .before .enum-told2 .given .1) (c .made2 .ensures)
 
 returns-3 : tie.Need-returns-3
-unfolding secondBy
+unfolding secondOutput
 returns-3 c = rw (c .before .enum-told3 .given .1) (c .made3 .ensures)
 
 returns-4 : tie.Need-returns-4
-unfolding secondBy
+unfolding secondOutput
 returns-4 c = rw (c .enum-told4 .given .1)
 
 returns-5 : tie.Need-returns-5
-unfolding secondBy
+unfolding secondOutput
 returns-5 c = rw (c .before .before .others .given .1) (c .tested .ensures)
 
 returns-6 : tie.Need-returns-6
-unfolding secondBy
+unfolding secondOutput
 returns-6 c = rw (c .before .before .enum-told5 .given .1, c .made4 .ensures, c .before .status-mask .ensures)
 
 pub second-output-spec : {M : Type 1} → statement M

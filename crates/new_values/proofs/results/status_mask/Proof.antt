@@ -1,6 +1,6 @@
 -- `new_values::results::status_mask` meets its contract.
 use borrow.Author.Tests.{ne-eqb}
-use Rattle.new_values.specs.results.Made.{statusMask}
+use Rattle.definition.specs.Outputs.{statusMask}
 use Rattle.new_values.proofs.results.status_mask.Statement.{statement}
 use Rattle.new_values.proofs.results.status_mask.Tie as tie
 

@@ -9,6 +9,7 @@ use Rattle.report_size.proofs.recorded.Told.{false-by}
 use borrow.Author.Needs.{needs}
 use Rattle.report_size.proofs.recorded.false_inspection.Statement.{statement}
 use Rattle.report_size.proofs.recorded.false_inspection.Tie as tie
+use Rattle.ops.specs.Numbers.{opIsEnum}
 
 top-mask-requires : tie.Need-top-mask-requires
 top-mask-requires c κs = search needs
@@ -23,8 +24,8 @@ returns : tie.Need-returns
 returns c =
     let a = c .before .before .before .before .before .args in
     let k =
-    ⊎-elim (λ w. w .1 ∙ sym (ap (λ (b : Bool). cond b ENUM STRUCT) (eq-eqb (a .op) 40 (w .0 .taken))))
-    (λ w. w .1 ∙ sym (ap (λ (b : Bool). cond b ENUM STRUCT) (ne-eqb (a .op) 40 (w .0 .left)))) (c .before .before .if1 .came) in
+    ⊎-elim (λ w. w .1 ∙ sym (ap (λ (b : Bool). cond b ENUM STRUCT) (eq-eqb (a .op) opIsEnum (w .0 .taken))))
+    (λ w. w .1 ∙ sym (ap (λ (b : Bool). cond b ENUM STRUCT) (ne-eqb (a .op) opIsEnum (w .0 .left)))) (c .before .before .if1 .came) in
     false-by (now (a .ws)) (a .row) (a .op) (c .before .is-recorded .result) (c .before .before .before .top-mask .result) (c .before .is-recorded .ensures)
     (c .before .before .before .top-mask .ensures) (c .before .before .if1 .inspected) (c .has .result) k (c .has .ensures)
 

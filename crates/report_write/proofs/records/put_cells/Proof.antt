@@ -3,7 +3,7 @@ use Prim.Native.Nat.{_*_, _-_, _≤_}
 use denote.Ref.{now}
 use native.Mathlib.Omega.{arith}
 use mathlib.Core.Path.{_≡_}
-use Rattle.le.specs.Wrote.{Wrote}
+use Rattle.le.specs.Wrote.{WroteN}
 use Rattle.le.proofs.Laws.{and-then, resize, same-length as same-long}
 use Rattle.report_cells.proofs.Laws.{said}
 use Rattle.words.specs.Rows.{cellsAt}
@@ -13,7 +13,7 @@ use Rattle.report_write.proofs.records.put_cells.Statement.{statement}
 use Rattle.report_write.proofs.records.put_cells.Tie as tie
 
 abbrev Inv-loop : tie.InvT-loop
-Inv-loop ws buf₀ at word n k₀ to₀ buf k to = (k ≤ n) × Wrote buf₀ at (49 * k) (cellsBytes (cellsAt ws word k)) buf to
+Inv-loop ws buf₀ at word n k₀ to₀ buf k to = (k ≤ n) × WroteN buf₀ at (49 * k) (cellsBytes (cellsAt ws word k)) buf to
 
 abbrev μ-loop : tie.MeasureT-loop
 μ-loop ws buf₀ at word n k₀ to₀ buf k to = n - k

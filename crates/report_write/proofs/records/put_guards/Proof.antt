@@ -23,7 +23,7 @@ use Rattle.report_write.proofs.records.put_guards.Tie as tie
 abbrev Inv-loop : tie.InvT-loop
 Inv-loop s ws buf₀ at t v want places p₀ to₀ buf p to =
     (placesBy v (want .ask) .from ≤ p) × (places ≡ placesBy v (want .ask)) × (p - placesBy v (want .ask) .from ≤ placesBy v (want .ask) .end - placesBy v (want .ask) .from)
-    × Wrote buf₀ at (length (span (guardAt s ws v want) (placesBy v (want .ask) .from) p)) (span (guardAt s ws v want) (placesBy v (want .ask) .from) p) buf to
+    × Wrote buf₀ at (span (guardAt s ws v want) (placesBy v (want .ask) .from) p) buf to
 
 abbrev μ-loop : tie.MeasureT-loop
 μ-loop s ws buf₀ at t v want places p₀ to₀ buf p to = places .end - p

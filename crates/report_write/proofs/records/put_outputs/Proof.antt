@@ -3,7 +3,7 @@ use borrow.Author.Needs.{needs}
 use Prim.Native.Nat.{_*_, _-_, _≤_, _+_}
 use native.Mathlib.Omega.{arith}
 use mathlib.Core.Path.{_≡_, ap, refl}
-use Rattle.le.specs.Wrote.{Wrote}
+use Rattle.le.specs.Wrote.{WroteN}
 use Rattle.le.proofs.Laws.{and-then, resize, same-length as same-long}
 use Rattle.report_cells.proofs.Laws.{said}
 use Rattle.definition.specs.Module.{row}
@@ -14,7 +14,7 @@ use Rattle.report_write.proofs.records.put_outputs.Statement.{statement
 use Rattle.report_write.proofs.records.put_outputs.Tie as tie
 
 abbrev Inv-loop : tie.InvT-loop
-Inv-loop buf₀ at v made given k₀ to₀ buf k to = (k ≤ given) × (given ≡ v .ins .given) × Wrote buf₀ at (51 * k) (outputsBytes (placed (v .start) (row (output made) 0 k))) buf to
+Inv-loop buf₀ at v made given k₀ to₀ buf k to = (k ≤ given) × (given ≡ v .ins .given) × WroteN buf₀ at (51 * k) (outputsBytes (placed (v .start) (row (output made) 0 k))) buf to
 
 abbrev μ-loop : tie.MeasureT-loop
 μ-loop buf₀ at v made given k₀ to₀ buf k to = given - k

@@ -2,10 +2,10 @@
 use Rattle.row_join.proofs.joining.Left.{stack-arrived}
 use denote.Ref.{now}
 use native.Mathlib.Omega.{arith}
-use Prim.Native.Nat.{_+_}
 use borrow.Author.Needs.{needs}
 use Rattle.row_join.proofs.joining.leave_stack.Statement.{statement}
 use Rattle.row_join.proofs.joining.leave_stack.Tie as tie
+use Rattle.layout.specs.Layout.{stackAt}
 
 add-to : tie.Need-add-to
 add-to c = search needs
@@ -34,7 +34,7 @@ same-length c = search needs
 returns : tie.Need-returns
 returns c =
     let a = c .before .before .before .before .before .before .before .before .before .before .before .before .before .before .before .before .args in
-    stack-arrived (a .l) (a .w .narrow) (a .fresh) (a .w .from + 96) (a .w .to + 96) (a .w .start) (now (a .ws)) _ _ _ _ (c .before .before .before .before .before .before .before .before .before .before .before .before .before .before .before .before .pre .1 .0) (c .before .before .before .before .before .before .before .before .before .keep-all .ensures) (c .before .before .put-outputs .ensures)
+    stack-arrived (a .l) (a .w .narrow) (a .fresh) (stackAt (a .w .from)) (stackAt (a .w .to)) (a .w .start) (now (a .ws)) _ _ _ _ (c .before .before .before .before .before .before .before .before .before .before .before .before .before .before .before .before .pre .1 .0) (c .before .before .before .before .before .before .before .before .before .keep-all .ensures) (c .before .before .put-outputs .ensures)
 
 pub leave-stack-spec : {M : Type 1} → statement M
 leave-stack-spec =

@@ -3,10 +3,10 @@ use lib.ListN.{length}
 use Rattle.row_join.proofs.joining.Left.{narrow-room, set-as-given, set-on-way}
 use mathlib.Core.Path.{refl}
 use denote.Ref.{now}
-use Prim.Native.Nat.{_+_, _*_}
 use borrow.Author.Needs.{needs}
 use Rattle.row_join.proofs.joining.set_on_way.Statement.{statement}
 use Rattle.row_join.proofs.joining.set_on_way.Tie as tie
+use Rattle.layout.specs.Layout.{localsAt}
 
 returns : tie.Need-returns
 returns c = set-as-given _ _ _ (c .if1 .taken)
@@ -40,7 +40,7 @@ narrow-enum-requires c κs = search needs
 returns-2 : tie.Need-returns-2
 returns-2 c =
     let a = c .before .before .before .before .before .before .before .before .args in
-    set-on-way (a .set) _ (a .w .narrow) (a .w .from + 96 + 16 * a .ch .stack) (a .ch .locals) (now (a .ws)) (c .before .load .result) (c .before .before .before .before .before .if1 .left) (c .before .before .before .before .before .before .before .before .pre .1) (c .before .load .ensures) refl (c .narrow-enum .ensures)
+    set-on-way (a .set) _ (a .w .narrow) (localsAt (a .w .from) (a .ch .stack)) (a .ch .locals) (now (a .ws)) (c .before .load .result) (c .before .before .before .before .before .if1 .left) (c .before .before .before .before .before .before .before .before .pre .1) (c .before .load .ensures) refl (c .narrow-enum .ensures)
 
 pub set-on-way-spec : {M : Type 1} → statement M
 set-on-way-spec =

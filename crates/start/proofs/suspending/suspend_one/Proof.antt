@@ -18,26 +18,19 @@ returns c = let p = c .before .before .before .before .before .pre in look-known
 calls-suspending-requires : tie.Need-calls-suspending-requires
 calls-suspending-requires c κs = search needs
 
-mul-ws : tie.Need-mul-ws
-mul-ws c = search needs
-
-add-ws : tie.Need-add-ws
-add-ws c = search needs
-
-add-ws-2 : tie.Need-add-ws-2
-add-ws-2 c = search needs
-
-mul-ws-2 : tie.Need-mul-ws-2
-mul-ws-2 c = search needs
-
-slice-write-ws : tie.Need-slice-write-ws
-slice-write-ws c = let p = c .before .before .before .before .before .before .before .before .pre in omega (arith, numbers-room _ _ (p .0) _ (p .1))
+set-suspends-requires : tie.Need-set-suspends-requires
+set-suspends-requires c κs =
+    let p = c .before .before .before .before .before .before .before .before .before .pre in
+    let r = numbers-room _ _ (p .0) _ (p .1) in (omega (arith, p .0 .good .chunksMost), omega arith)
 
 same-length-2 : tie.Need-same-length-2
 same-length-2 c = search needs
 
 returns-2 : tie.Need-returns-2
-returns-2 c = let p = c .before .before .before .before .before .before .before .before .pre in look-found _ _ (p .0) _ (p .1) _ (c .before .before .before .before .chunk-at .ensures) (c .before .before .before .if1 .left) _ (c .before .calls-suspending .ensures) (c .if2 .taken)
+returns-2 c =
+    let p = c .before .before .before .before .before .before .before .before .before .before .before .before .pre in
+    rw (c .before .before .set-suspends .ensures)
+    (look-found _ _ (p .0) _ (p .1) _ (c .before .before .before .before .before .before .before .before .chunk-at .ensures) (c .before .before .before .before .before .before .before .if1 .left) _ (c .before .before .before .before .before .calls-suspending .ensures) (c .before .before .before .before .if2 .taken))
 
 same-length-3 : tie.Need-same-length-3
 same-length-3 c = search needs
@@ -53,11 +46,7 @@ suspend-one-spec =
     same-length
     returns
     calls-suspending-requires
-    mul-ws
-    add-ws
-    add-ws-2
-    mul-ws-2
-    slice-write-ws
+    set-suspends-requires
     same-length-2
     returns-2
     same-length-3

@@ -1,4 +1,0 @@
-// The program factlist, run on another input.
-fn main() {
-    factlisting::run();
-}
