@@ -63,6 +63,10 @@ enum {
  * of its buffer, or returns the refusal's number and leaves the buffer as it
  * was. The bytes past a report stay as they were, too.
  *
+ * A description has one report: every call that accepts it writes the same
+ * bytes and takes the same steps, whatever workspace, buffer and limit it has.
+ * The guards of a record rise by stack place, then by mask.
+ *
  * description  its bytes; only read
  * workspace    words to work in, whatever they hold: at least as many as
  *              facts_words says; each one more is room for one more entry in

@@ -1,7 +1,7 @@
 //! The command line program `oracle`.
 
 use oracle::judged::judged;
-use oracle::model::{Take, split_field};
+use oracle::model::{Take, at16, split_field};
 use oracle::run::{self, Outcome};
 use oracle::text;
 use std::io::Write;
@@ -112,7 +112,7 @@ fn fields(tag: u8, contents: &[u8], steps: u32) -> Option<String> {
             let masks = |from: u16, count: u16| {
                 let mask = |k: u16| {
                     let at = 49 * usize::from(from + k);
-                    u16::from_le_bytes([cells[at], cells[at + 1]]).to_string()
+                    at16(cells, at).to_string()
                 };
                 let all: Vec<String> = (0..count).map(mask).collect();
                 if all.is_empty() { "-".to_string() } else { all.join(" ") }

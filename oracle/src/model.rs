@@ -261,6 +261,9 @@ pub fn split_field(bytes: &[u8]) -> Option<(u8, &[u8], &[u8])> {
     Some((bytes[0], contents, &bytes[3 + length..]))
 }
 
+pub fn at16(bytes: &[u8], at: usize) -> u16 {
+    u16::from_le_bytes([bytes[at], bytes[at + 1]])
+}
 pub fn put16(out: &mut Vec<u8>, value: u16) {
     out.extend(value.to_le_bytes());
 }

@@ -8,7 +8,8 @@
 //!
 //! First the examples, and one with a `Len` that is never reached. Then those of
 //! `generate`, by number, as long as they are small: the first so many of each
-//! outcome, and any accepted one that has an instruction seldom recorded so far.
+//! outcome, and any accepted one that has an instruction seldom recorded so far,
+//! or seldom with a guard, or with two.
 //! Workspace, buffer and limit are the generator's. What types.rs does not judge
 //! is left out.
 
@@ -32,6 +33,8 @@ const ACCEPTED: u64 = 1_300;
 const REFUSED: u64 = 70;
 /// An instruction is seldom recorded up to so many descriptions.
 const SELDOM: u64 = 12;
+/// With a guard, or with two, it is up to so many.
+const SELDOM_GUARDED: u64 = 4;
 /// The largest numbers of an entry; a report past `SHORT` is stored for a seldom instruction only.
 const BYTES: usize = 1_500;
 const WORDS: u64 = 16_384;
@@ -71,11 +74,15 @@ impl List {
         self.coverage.add(&one.bytes, outcome);
     }
 
-    /// Whether an accepted description has a record of a seldom instruction.
+    /// Whether an accepted description has a record of a seldom instruction, or
+    /// one with as many guards as that instruction seldom has.
     fn seldom(&self, one: &Generated, outcome: &Outcome) -> bool {
         let mut alone = Coverage::default();
         alone.add(&one.bytes, outcome);
-        alone.recorded.iter().zip(&self.coverage.recorded).any(|(here, all)| *here > 0 && *all < SELDOM)
+        let few = |here: &[u64], all: &[u64], most: u64| here.iter().zip(all).any(|(here, all)| *here > 0 && *all < most);
+        few(&alone.recorded, &self.coverage.recorded, SELDOM)
+            || few(&alone.guarded, &self.coverage.guarded, SELDOM_GUARDED)
+            || few(&alone.ordered, &self.coverage.ordered, SELDOM_GUARDED)
     }
 
     fn wanted(&self, one: &Generated, outcome: &Outcome) -> bool {

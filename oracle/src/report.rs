@@ -4,6 +4,10 @@ use crate::Width;
 use crate::found::{Cell, Found};
 use crate::model::{field, put16, put32};
 
+/// Where the number of guards stands in the contents of a record; the guards
+/// are its last bytes, four each.
+pub const GUARDS_AT: usize = 10;
+
 fn place(out: &mut Vec<u8>, at: Option<usize>) {
     put16(out, at.map_or(65535, |at| at as u16));
 }

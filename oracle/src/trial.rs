@@ -4,7 +4,7 @@
 use crate::port;
 use oracle::generate::random::Random;
 use oracle::lookup::lookup;
-use oracle::model::split_field;
+use oracle::model::{at16, split_field};
 use oracle::run::{Outcome, Refusal};
 use std::cell::RefCell;
 use std::panic::{AssertUnwindSafe, catch_unwind};
@@ -164,8 +164,7 @@ pub fn lookup_differs(report: &[u8], r: &mut Random) -> Option<String> {
     while let Some((tag, contents, after)) = split_field(rest) {
         rest = after;
         if tag == 19 && contents.len() >= 4 {
-            let number = |at: usize| u16::from_le_bytes([contents[at], contents[at + 1]]);
-            recorded.push((number(0), number(2)));
+            recorded.push((at16(contents, 0), at16(contents, 2)));
         }
     }
     let place = |r: &mut Random| r.pick(&[0, 0, 0, 1, 2, 3, 5, 8, 13, 30, 256, 65535]) as u16;

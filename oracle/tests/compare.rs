@@ -45,7 +45,7 @@ fn nothing_differs_from_itself() {
 #[test]
 fn every_fault_is_noticed() {
     let faults = [
-        "last byte", "past the report", "word left", "panic", "length", "steps", "workspace cleared",
+        "last byte", "guards turned", "past the report", "word left", "panic", "length", "steps", "workspace cleared",
         "report touched", "number", "chunk", "instruction", "refusal's steps", "empty part", "record",
     ];
     for fault in faults {

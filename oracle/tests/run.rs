@@ -126,6 +126,10 @@ fn guards() {
     let Outcome::Accepted { report, .. } = ample(&d) else { panic!("accepted") };
     let one = oracle::lookup::lookup(&report, 0, 2);
     assert_eq!(&one[one.len() - 4..], &[0, 0, 0, 1]);
+    // The places rise, 0 and 1, though their masks, 512 and 8, fall.
+    let two = record("guards", 1, 2);
+    assert_eq!(&two[13..15], &[2, 0]);
+    assert_eq!(&two[two.len() - 8..], &[0, 0, 0, 2, 1, 0, 8, 0]);
     // A value that has the kind wants no guard.
     d.chunks[0].signature.as_mut().unwrap().params[0].kind = 0;
     let Outcome::Accepted { report, .. } = ample(&d) else { panic!("accepted") };
@@ -149,7 +153,7 @@ fn words_of_a_workspace() {
 #[test]
 fn examples() {
     let accepted = [
-        ("call", 21), ("composites", 26), ("cut", 6), ("guard-0", 8), ("loop", 36), ("narrowed", 20), ("native", 12),
+        ("call", 21), ("composites", 26), ("cut", 6), ("guard-0", 8), ("guards", 24), ("loop", 36), ("narrowed", 20), ("native", 12),
         ("placements", 27), ("private", 18), ("recursion", 36), ("stream", 24), ("yield", 8),
     ];
     for (name, steps) in accepted {

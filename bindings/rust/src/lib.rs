@@ -182,6 +182,10 @@ pub fn outcome(answer: [u32; 5]) -> Outcome {
 /// most. Accepted: the report is in the first bytes of `report`. The workspace
 /// is as it was after the refusals 1 to 5, and zeros after all else; nothing
 /// but a report is written to `report`.
+///
+/// A description has one report: every call that accepts it writes the same
+/// bytes and takes the same steps, whatever workspace, buffer and limit it has.
+/// The guards of a record rise by stack place, then by mask.
 pub fn check(description: &[u8], workspace: &mut [u32], report: &mut [u8], limit: u32) -> Outcome {
     outcome(numbers(description, workspace, report, limit).1)
 }

@@ -19,6 +19,7 @@ use Rattle.definition.specs.Call.{turned, decided, decide, turnedBack, outcomeO
 use Rattle.form_laws.specs.Good.{Good, wordsOf}
 use Rattle.form_laws.proofs.Theorem.{good-form}
 use Rattle.run_state.specs.Course.{roomIn}
+use Rattle.consistent.proofs.Accepted.{one-report}
 use Rattle.consistent.proofs.Bytes.{demand-3}
 use Rattle.refusal_laws.proofs.Forms.{form-numbers}
 use Rattle.refusal_laws.proofs.Left.{left-as-was, decided-zero}
@@ -53,7 +54,7 @@ module _ (s ws buf : List ℕ) (limit : ℕ) where
   unfolding roomOf
   room-number r e = few (length ws) (formOf s) r (λ q h. form-numbers s q h .1) e
 
-  -- demand 3 follows from the rest
+  -- demand 3, and that there is one report, follow from the rest
   checked : (r : Answer) (buf′ ws′ : List ℕ) → r ≡ call s ws buf limit .answer → buf′ ≡ call s ws buf limit .report → ws′ ≡ call s ws buf limit .workspace → getD (numbers r) 4 0 < 4294967296
       → Checked s ws buf limit r buf′ ws′
   checked r buf′ ws′ a b w n =
@@ -64,6 +65,7 @@ module _ (s ws buf : List ℕ) (limit : ℕ) where
         workspace = w;
         short = n;
         consistent = λ long steps e. rw b (demand-3 s ws buf limit long steps (sym a ∙ e));
+        one-report = λ long steps e. rw b (one-report s ws buf limit long steps (sym a ∙ e));
       }
 
   pub checked-refused : (f : Form) (r : Refusal) → f ≡ roomOf s (length ws) → f ≡ Malformed r → Checked s ws buf limit (Refused r) buf ws

@@ -1,4 +1,5 @@
--- What a call of `check` comes to: answer, report buffer and workspace are the definition's for all arguments, and an accepted report meets demand 3.
+-- What a call of `check` comes to: answer, report buffer and workspace are the definition's for all arguments, an accepted report meets demand 3
+-- and is the only one of its description.
 use Prim.Native.Nat.{ℕ, _<_}
 use mathlib.Core.Path.{_≡_}
 use mathlib.Core.List.{List}
@@ -10,6 +11,7 @@ use Rattle.definition.specs.Module.{moduleOf}
 use Rattle.definition.specs.Call.{call}
 use Rattle.report_laws.specs.Read.{readReport}
 use Rattle.consistent.specs.Consistent.{Consistent}
+use Rattle.consistent.specs.OneReport.{OneReport}
 
 -- s the description, ws and buf workspace and report buffer as they were; r, buf′ and ws′ the answer and what the call left
 pub record Checked (s ws buf : List ℕ) (limit : ℕ) (r : Answer) (buf′ ws′ : List ℕ) : Type 0 where
@@ -22,3 +24,5 @@ pub record Checked (s ws buf : List ℕ) (limit : ℕ) (r : Answer) (buf′ ws�
   pub short : getD (numbers r) 4 0 < 4294967296
   -- demand 3, of the bytes that were written
   pub consistent : (long steps : ℕ) → r ≡ Accepted long steps → Consistent (moduleOf s) (readReport (take long buf′))
+  -- document 02, One: every call that accepts this description has this length, these steps and writes these bytes
+  pub one-report : (long steps : ℕ) → r ≡ Accepted long steps → OneReport s long steps (take long buf′)

@@ -22,9 +22,10 @@ use Rattle.definition.specs.Machine.{Final}
 use Rattle.definition.specs.Module.{Module, Chunk, row, chunkFrom, chunksFrom, codeAfter, moduleFrom, moduleOf}
 use Rattle.definition.specs.State.{State, Facts, joinCells}
 use Rattle.definition.specs.Outputs.{noCell}
-use Rattle.definition.specs.Leaves.{Known}
+use Rattle.definition.specs.Leaves.{Known, visitOf}
 use Rattle.definition.specs.Start.{firstFacts}
-use Rattle.definition.specs.Report.{Record, signaturesFrom, slotCells, recordFrom, recordOf, fromState, fromStates, fromChunks, reportOf}
+use Rattle.definition.specs.Report.{Record, guardsRise, signaturesFrom, slotCells, recordFrom, recordOf, fromState, fromStates, fromChunks, reportOf}
+use Rattle.definition.proofs.Guards.{guards-rise}
 use Rattle.consistent.proofs.Rows.{wider-refl}
 use Rattle.consistent.proofs.Absorb.{Declared}
 use Rattle.form_laws.proofs.Each.{suc-out, row-length}
@@ -223,6 +224,13 @@ module _ (k : Known) (reply : ℕ) (x : Final Facts State) (numbers : Numbered 0
       let (c, st, i, s, b, r, h) = in-chunks y recorded (k .code .chunks) (x .states) m in
       let e : y ≡ recordOf k c (x .facts) i s = List·Memᴰ·eq-of-singleton h in
       (c, st, b, ap (λ (z : Record). z .chunk) e, its-state y c st i s e r)
+
+  -- its guards are those of a visit
+  pub guards-ordered : (y : Record) → List·Memᴰ y (reportOf k reply x .records) → guardsRise (y .guards) ≡ true
+  unfolding reportOf recordOf recordFrom
+  guards-ordered y m =
+      let (c, st, i, s, b, r, h) = in-chunks y recorded (k .code .chunks) (x .states) m in
+      ap (λ (z : Record). guardsRise (z .guards)) (List·Memᴰ·eq-of-singleton h) ∙ guards-rise (visitOf k c (x .facts) i s)
 
   pub said : (c : Chunk) (st : List (Option State)) (i : ℕ) (s : State) → Beside c st (k .code .chunks) (x .states) → getD st i none ≡ some s
       → Recorded (reportOf k reply x) (c .number) i s

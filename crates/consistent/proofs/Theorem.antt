@@ -32,7 +32,7 @@ use Rattle.consistent.proofs.Rows.{taken-at}
 use Rattle.consistent.proofs.States.{cell-grows, cells-grows, cells-over, all-in, takes-in}
 use Rattle.consistent.proofs.Absorb.{Fits, Declared}
 use Rattle.consistent.proofs.Visits.{accepted, after-none, start-length, start-first, begun}
-use Rattle.consistent.proofs.Records.{Beside, beside-mem, Numbered, numbered, in-chunks, of-chunks, facts-back, first-declared, first-masks, all-flows, signatures-numbered, record-of, said, unsaid}
+use Rattle.consistent.proofs.Records.{Beside, beside-mem, Numbered, numbered, in-chunks, of-chunks, facts-back, first-declared, first-masks, all-flows, signatures-numbered, record-of, guards-ordered, said, unsaid}
 use Rattle.consistent.proofs.Decided.{of-decide}
 use Rattle.consistent.proofs.Range.{CallsFit, Placed, placed}
 use Rattle.consistent.proofs.Calls.{calls-fit}
@@ -246,6 +246,7 @@ module _ (m : Module) (numbers : Numbered 0 (m .chunks)) (admits : admitted m (m
         declared = rw back (declared-in m (x .facts) begun-with);
         none = no-states;
         owned = owns;
+        ordered = guards-ordered K reply x numbers;
         branches = λ y. (
           λ k.
               let (c, st, i, s, b, r, h) = in-chunks y branchOf (m .chunks) (x .states) k in

@@ -1,4 +1,5 @@
--- Demand 3: a report that is consistent beside its module. Recorded, takes in, leaves, passes and reached are document 01's words.
+-- Demand 3: a report that is consistent beside its module. Recorded, takes in, leaves, passes and reached are document 01's words. Of document
+-- 02: the order of guards (One).
 use Prim.Native.Nat.{ℕ, _<_, _≤_}
 use mathlib.Core.Path.{_≡_}
 use mathlib.Core.Logic.{_⊎_, _↔_}
@@ -14,7 +15,7 @@ use Rattle.cells.specs.declared.Cell.{Cell}
 use Rattle.cells.specs.Cell.{joinCell}
 use Rattle.ops.specs.Ops.{ruleOf}
 use Rattle.join_laws.specs.Join.{Takes}
-use Rattle.definition.specs.Module.{Module, Chunk, Line, row}
+use Rattle.definition.specs.Module.{Module, Chunk, row}
 use Rattle.definition.specs.State.{State, Facts, Gift, nothing, arguments, returned, written}
 use Rattle.definition.specs.Data.{isBody}
 use Rattle.definition.specs.Outputs.{Visit, noCell}
@@ -22,7 +23,7 @@ use Rattle.definition.specs.Wants.{unfit}
 use Rattle.definition.specs.Ways.{after, leaving}
 use Rattle.definition.specs.Leaves.{always, visitOf, lineAt, gives, storedFlow}
 use Rattle.definition.specs.Start.{stateFault, initMask, firstFacts, knownOf, filled, last}
-use Rattle.definition.specs.Report.{Report, Record, Inspection, Branch, saysFalse, isTest}
+use Rattle.definition.specs.Report.{Report, Record, guardsRise, Inspection, Branch, saysFalse, isTest}
 
 -- ---- what a report says
 -- the cells of tags 17 and 18, as the rules read them
@@ -143,6 +144,8 @@ pub record Consistent (m : Module) (r : Report) : Type 0 where
   -- an unreachable chunk has no records, and every record is of a chunk
   pub none : (c : Chunk) → List·Memᴰ c (m .chunks) → c .reachable ≡ false → (i : ℕ) (s : State) → Recorded r (c .number) i s → ⊥
   pub owned : (x : Record) → List·Memᴰ x (r .records) → (c : Chunk) × List·Memᴰ c (m .chunks) × (x .chunk ≡ c .number) × (c .reachable ≡ true)
+  -- the guards of a record stand in rising order of stack place, then of mask (document 02, One)
+  pub ordered : (x : Record) → List·Memᴰ x (r .records) → guardsRise (x .guards) ≡ true
   -- the known branches and false inspections listed are those that the records show
   pub branches : (b : Branch) → (List·Memᴰ b (r .branches) ↔ KnownBranch m r b)
   pub inspections : (x : Inspection) → (List·Memᴰ x (r .inspections) ↔ FalseInspection m r x)

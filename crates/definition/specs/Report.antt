@@ -4,12 +4,14 @@
 -- and the cell of 49 bytes.
 -- Where it differs: outputs and guards are worked out from the final states, while types.rs keeps those of an instruction's last visit;
 -- that visit was with the final state, so they are the same. Readings: B8 the places of outputs and guards, C1 every signature and slot, C2
--- absent parts, D5 a guard of mask 0 is listed.
--- Nothing is left open: guards, which document 01 allows in any order, rise by stack place. Recursion goes along lists.
+-- absent parts, D5 a guard of mask 0 is listed. Of document 02: One, the order of a record's guards (`guardsRise`); that they stand in it is a
+-- theorem, `guards-rise` (proofs/Guards.antt).
+-- Nothing is left open: one report for each run. Recursion goes along lists.
 use Prim.Native.Nat.{ℕ, suc}
-use mathlib.Core.Bool.{Bool, true, false, not, cond}
+use mathlib.Core.Bool.{Bool, true, false, not, cond, _&&_, _||_}
 use mathlib.Core.Option.{Option, none, some}
 use mathlib.Core.List.{List, [], _∷_, _++_}
+use lib.Dec.{eqb, ltb}
 use lib.ListN.{length, getD}
 use Rattle.le.specs.Le.{le16, le32}
 use Rattle.masks.specs.declared.Mask.{Mask}
@@ -62,6 +64,16 @@ pub record Record : Type 0 where
   pub locals : List Cell
   pub outputs : List Output
   pub guards : List Guarded
+
+-- the one guard stands before the other: by stack place, then by mask
+unfoldable pub guardBefore : Guarded → Guarded → Bool
+guardBefore g h = ltb (g .place) (h .place) || (eqb (g .place) (h .place) && ltb (g .mask .bits) (h .mask .bits))
+
+-- each guard stands before the next
+unfoldable pub guardsRise : List Guarded → Bool
+guardsRise [] = true
+guardsRise (g ∷ []) = true
+guardsRise (g ∷ (h ∷ gs)) = guardBefore g h && guardsRise (h ∷ gs)
 
 -- tags 20 and 21
 pub record Inspection : Type 0 where

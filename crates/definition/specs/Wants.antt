@@ -4,8 +4,7 @@
 -- Where it differs: types.rs stops at the first requirement that fails; here all are found, and one that is not proven refuses, which is 13
 -- either way. The functions are given masks, since the closures read nothing else of a cell. Readings: D3 tested at every taking, D5 two
 -- requirements on one place meet.
--- Document 01 leaves the order of guards open; here they rise by stack place. Nothing else is open. Recursion goes along operands and
--- slots.
+-- Nothing is left open; the guards rise by stack place (document 02, One). Recursion goes along operands and slots.
 use Prim.Native.Nat.{ℕ, suc, _+_, _-_}
 use mathlib.Core.Bool.{Bool, true, false, not, cond, _&&_}
 use mathlib.Core.Option.{Option, none, some}

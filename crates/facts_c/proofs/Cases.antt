@@ -17,6 +17,7 @@ use Rattle.definition.specs.Module.{moduleOf}
 use Rattle.definition.specs.Call.{call}
 use Rattle.report_laws.specs.Read.{readReport}
 use Rattle.consistent.specs.Consistent.{Consistent}
+use Rattle.consistent.specs.OneReport.{OneReport}
 use Rattle.form_laws.proofs.Theorem.{good-form}
 use Rattle.lookup.specs.declared.Part.{Part}
 use Rattle.refusal_laws.proofs.Calls.{refused-numbers}
@@ -41,8 +42,9 @@ short-length a length steps e h = rw e at h
 module _ (s ws buf : List ℕ) (limit : ℕ) where
   accepted-by : (a : Answer) (buf′ ws′ : List ℕ) → Checked s ws buf limit a buf′ ws′ → getD (numbers a) 0 0 ≡ 0
       → (long : ℕ) × (steps : ℕ) × (call s ws buf limit .answer ≡ Accepted long steps) × Consistent (moduleOf s) (readReport (take long buf′))
+      × OneReport s long steps (take long buf′)
   unfolding numbers
-  accepted-by (Accepted long steps) buf′ ws′ k z = (long, steps, sym (k .answer), k .consistent long steps refl)
+  accepted-by (Accepted long steps) buf′ ws′ k z = (long, steps, sym (k .answer), k .consistent long steps refl, k .one-report long steps refl)
   accepted-by (Turned r) buf′ ws′ k z = absurd (omega (arith, refused-numbers s ws buf limit r (sym (k .answer)) .0))
 
   pub called : (a : Answer) (r : ℕ) (out buf′ ws′ : List ℕ) → Checked s ws buf limit a buf′ ws′ → out ≡ numbers a → r ≡ getD (numbers a) 0 0

@@ -13,6 +13,7 @@ use Rattle.definition.specs.Module.{moduleOf}
 use Rattle.definition.specs.Call.{call}
 use Rattle.report_laws.specs.Read.{readReport}
 use Rattle.consistent.specs.Consistent.{Consistent}
+use Rattle.consistent.specs.OneReport.{OneReport}
 use Rattle.lookup.specs.declared.Part.{Part}
 
 -- s the description, ws and buf workspace and report buffer as they were; r what is returned, out, buf′ and ws′ what the call left
@@ -22,8 +23,9 @@ pub record CallOf (s ws buf : List ℕ) (limit r : ℕ) (out buf′ ws′ : List
   pub number : r ≡ getD out 0 0
   pub report : buf′ ≡ call s ws buf limit .report
   pub workspace : ws′ ≡ call s ws buf limit .workspace
-  -- 0 is returned only where the call is accepted; demand 3, of the bytes that were written
+  -- 0 is returned only where the call is accepted; demand 3, of the bytes that were written, and that no call accepts with others
   pub accepted : r ≡ 0 → (long : ℕ) × (steps : ℕ) × (call s ws buf limit .answer ≡ Accepted long steps) × Consistent (moduleOf s) (readReport (take long buf′))
+      × OneReport s long steps (take long buf′)
 
 -- 0 for good form, or the refusal's number
 unfoldable pub formNumber : Form → ℕ

@@ -1,4 +1,5 @@
 // The record of an instruction, written: its place, its counts, cells, outputs and guards. Each write answers the place after it.
+use checks::Places;
 use checks::check_place;
 use checks::places_asked;
 use checks::want_at;
@@ -88,6 +89,14 @@ fn put_guard(buf: &mut [u8], at: usize, p: usize, c: Check) -> usize
     }
 }
 
+// The place asked k-th: they rise, and the guards with them.
+fn place_in_turn(places: Places, k: usize) -> usize
+    requires { ⌜ places .from + k < places .end ⌝ }
+    ensures { λ r. ⌜ r ≡ places .from + k ⌝ }
+{
+    places.from + k
+}
+
 // The guards, rising by stack place.
 fn put_guards(
     s: &[u8],
@@ -104,11 +113,13 @@ fn put_guards(
     ensures { λ r. ⌜ Wrote (now (buf .entry)) at (guardsBytes (guards (visitIn (now (s .entry)) (now (ws .entry)) v))) (now (buf .exit)) r ⌝ }
 {
     let places = places_asked(v, want);
-    let mut p = places.from;
+    let n = places.end - places.from;
+    let mut k = 0;
     let mut to = at;
-    while p < places.end {
+    while k < n {
+        let p = place_in_turn(places, k);
         to = put_guard(buf, to, p, check_place(s, ws, t, v, want, p));
-        p += 1;
+        k += 1;
     }
     to
 }

@@ -302,27 +302,61 @@ impl Code<'_> {
         last
     }
     /// Reads a local and consumes it as one kind: a guard, where the way of
-    /// that kind arrives first.
+    /// that kind arrives first. A number is now and then read twice, for an
+    /// instruction of two operands: two guards.
     fn consume(&mut self, at: usize, kind: u16) {
         self.get_local(at);
         let base = self.stack.len() - 1;
+        if kind & NUMERIC != 0 && self.r.often(400) {
+            self.get_local(at);
+            self.consume_pair(kind);
+        } else {
+            self.consume_top(at, kind);
+        }
+        let count = self.stack.len() - base;
+        self.drop_top(count);
+    }
+    fn consume_pair(&mut self, kind: u16) {
+        let op = match kind {
+            WORD => self.r.pick(&[BIT_AND, BIT_OR, BIT_XOR, SHL, SHR, CMP_LT, MOD, CHECKED_ADD]),
+            BYTE => self.r.pick(&[ADD, SUB, CMP_GT, CHECKED_MOD]),
+            FIXED => self.r.pick(&[FIXED_MUL, FIXED_DIV, CMP_GE, CHECKED_SUB]),
+            _ => self.r.pick(&[MUL, DIV, CMP_LE]),
+        };
+        self.put(op, 2, given(op).0, [0; 3], &[]);
+    }
+    /// An index into a local's array: a word, or another local that may be more.
+    fn index_into(&mut self, array: usize) {
+        let at = self.r.below(self.locals.len());
+        if at == array || self.r.often(500) {
+            self.value(WORD, 0);
+            return;
+        }
+        let kinds = WORD | self.r.bit(PLAIN);
+        self.mix(at, kinds);
+        self.get_local(at);
+    }
+    fn consume_top(&mut self, at: usize, kind: u16) {
         let (op, taken, abc) = match kind {
             WORD => (self.r.pick(&[WORD_TO_BYTE, INT_TO_FLOAT, WORD_TO_FIXED, BIT_OR, BOUNDS_CHECK]), 1, [0; 3]),
             BYTE => (self.r.pick(&[BYTE_TO_WORD, NEG, ADD]), 1, [0; 3]),
             FIXED => (self.r.pick(&[FIXED_TO_WORD, FIXED_MUL, NEG]), 1, [0; 3]),
             FLOAT => (self.r.pick(&[FLOAT_TO_INT, NEG, MUL]), 1, [0; 3]),
+            FALSE | TRUE if self.may_break(1) && self.r.often(500) => return self.break_if(),
             FALSE | TRUE => (NOT, 1, [0; 3]),
             TUPLE => (GET_TUPLE_FIELD, 1, [0, 3, 0]),
             STRUCT => (GET_FIELD, 1, [1, 3, 8]),
             ENUM => (GET_ENUM_FIELD, 1, [0, 3, 0]),
+            ARRAY => {
+                self.index_into(at);
+                (GET_INDEX, 2, [0, 3, 0])
+            }
             _ => {
                 self.value(WORD, 0);
-                (if kind == ARRAY { GET_INDEX } else { CMP_EQ }, 2, if kind == ARRAY { [0, 3, 0] } else { [0; 3] })
+                (CMP_EQ, 2, [0; 3])
             }
         };
         self.put(op, taken, 1, abc, &[]);
-        let count = self.stack.len() - base;
-        self.drop_top(count);
     }
     /// A branch on a constant, or to the very next instruction.
     fn odd_branch(&mut self, depth: usize) {
@@ -367,6 +401,10 @@ impl Code<'_> {
             *local = local.join(other);
         }
     }
+    /// Whether the stack, less so many values, is at the loop's height.
+    fn may_break(&self, less: usize) -> bool {
+        self.loops.last().is_some_and(|(height, _)| *height + less == self.stack.len())
+    }
     fn break_if(&mut self) {
         let at = self.code.len();
         self.put(BREAK_IF, 1, 0, [0; 3], &[]);
@@ -374,8 +412,7 @@ impl Code<'_> {
     }
     /// A break at the loop's height; `Break` ends the block.
     fn leave(&mut self) -> bool {
-        let (height, _) = *self.loops.last().map(|(h, b)| (*h, b.len())).as_ref().expect("a loop");
-        if self.stack.len() != height {
+        if !self.may_break(0) {
             return false;
         }
         if self.r.often(700) {

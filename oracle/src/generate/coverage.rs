@@ -1,7 +1,8 @@
 //! What generated descriptions reach: instructions and outcomes, counted.
 
-use crate::model::{Description, split_field};
+use crate::model::{Description, at16, split_field};
 use crate::ops::NAMES;
+use crate::report::GUARDS_AT;
 use crate::run::Outcome;
 
 #[derive(Debug, Clone)]
@@ -12,16 +13,28 @@ pub struct Coverage {
     /// Outcomes by refusal number, 0 for accepted.
     pub outcomes: [u64; 19],
     /// Descriptions that have the instruction; accepted ones that have it;
-    /// accepted ones with a record of it.
+    /// accepted ones with a record of it; with a guard in such a record; with
+    /// two or more, where their order shows.
     pub present: [u64; 66],
     pub accepted: [u64; 66],
     pub recorded: [u64; 66],
+    pub guarded: [u64; 66],
+    pub ordered: [u64; 66],
 }
 
 impl Default for Coverage {
     fn default() -> Self {
         let none = [0; 66];
-        Coverage { descriptions: 0, left_out: 0, outcomes: [0; 19], present: none, accepted: none, recorded: none }
+        Coverage {
+            descriptions: 0,
+            left_out: 0,
+            outcomes: [0; 19],
+            present: none,
+            accepted: none,
+            recorded: none,
+            guarded: none,
+            ordered: none,
+        }
     }
 }
 
@@ -54,16 +67,22 @@ impl Coverage {
         count(&mut self.present, present);
         let Outcome::Accepted { report, .. } = outcome else { return };
         count(&mut self.accepted, present);
-        let mut recorded = 0u128;
+        let (mut recorded, mut guarded, mut ordered) = (0u128, 0u128, 0u128);
         let mut rest = &report[..];
         while let Some((tag, contents, after)) = split_field(rest) {
             rest = after;
             if tag == 19 {
-                let place = |at: usize| usize::from(u16::from_le_bytes([contents[at], contents[at + 1]]));
-                recorded |= 1 << d.chunks[place(0)].code[place(2)].op;
+                let place = |at: usize| usize::from(at16(contents, at));
+                let op = d.chunks[place(0)].code[place(2)].op;
+                let guards = at16(contents, GUARDS_AT);
+                recorded |= 1 << op;
+                guarded |= u128::from(guards > 0) << op;
+                ordered |= u128::from(guards > 1) << op;
             }
         }
         count(&mut self.recorded, recorded);
+        count(&mut self.guarded, guarded);
+        count(&mut self.ordered, ordered);
     }
 
     pub fn join(&mut self, other: &Coverage) {
@@ -74,6 +93,8 @@ impl Coverage {
         add(&mut self.present, &other.present);
         add(&mut self.accepted, &other.accepted);
         add(&mut self.recorded, &other.recorded);
+        add(&mut self.guarded, &other.guarded);
+        add(&mut self.ordered, &other.ordered);
     }
 
     /// Two Markdown tables.
@@ -85,10 +106,12 @@ impl Coverage {
         }
         out += &format!("| all | {} |\n", self.descriptions);
         out += &format!("| left out by intention | {} |\n\n", self.left_out);
-        out += "| instruction | in descriptions | in accepted ones | recorded in accepted ones |\n|---|---|---|---|\n";
+        out += "| instruction | in descriptions | in accepted ones | recorded in accepted ones | with a guard | with two or more |\n";
+        out += "|---|---|---|---|---|---|\n";
         for op in 0..66 {
             let (present, accepted, recorded) = (self.present[op], self.accepted[op], self.recorded[op]);
-            out += &format!("| {} | {present} | {accepted} | {recorded} |\n", NAMES[op]);
+            let (guarded, ordered) = (self.guarded[op], self.ordered[op]);
+            out += &format!("| {} | {present} | {accepted} | {recorded} | {guarded} | {ordered} |\n", NAMES[op]);
         }
         out
     }

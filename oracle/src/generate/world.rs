@@ -20,6 +20,8 @@ pub const TRUE: u16 = 4096;
 pub const BOOL: u16 = FALSE | TRUE;
 pub const BODY: u16 = TUPLE | ARRAY | STRUCT | ENUM;
 pub const UNKNOWN: u16 = 8191;
+/// What an instruction of two operands takes.
+pub const NUMERIC: u16 = BYTE | WORD | FIXED | FLOAT;
 /// Kinds that a value may have without harm almost everywhere.
 pub const PLAIN: u16 = UNIT | BOOL | BYTE | WORD | FIXED | FLOAT | BODY;
 

@@ -1,6 +1,9 @@
 //! A port that asks the oracle. The variable WRONG makes it wrong in one way,
 //! to see that the comparison notices.
 
+use oracle::model::{at16, split_field};
+use oracle::report::GUARDS_AT;
+
 pub struct Refusal {
     pub number: u8,
     pub chunk: u16,
@@ -17,6 +20,17 @@ fn wrong(how: &str) -> bool {
     WRONG.get_or_init(|| std::env::var("WRONG").unwrap_or_default()) == how
 }
 
+/// The guards of each record, from the last place down.
+fn turn_guards(report: &mut [u8]) {
+    let mut at = 0;
+    while let Some((tag, contents, _)) = split_field(&report[at..]) {
+        let guards = if tag == 19 { 4 * usize::from(at16(contents, GUARDS_AT)) } else { 0 };
+        at += 3 + contents.len();
+        let turned: Vec<u8> = report[at - guards..at].chunks(4).rev().flatten().copied().collect();
+        report[at - guards..at].copy_from_slice(&turned);
+    }
+}
+
 pub fn check(description: &[u8], workspace: &mut [u32], report: &mut [u8], limit: u32) -> Answer {
     match oracle::run::check(description, workspace.len() as u64, report.len(), limit) {
         oracle::run::Outcome::Accepted { report: bytes, steps } => {
@@ -25,6 +39,9 @@ pub fn check(description: &[u8], workspace: &mut [u32], report: &mut [u8], limit
             workspace.fill(0);
             if wrong("last byte") {
                 report[length - 1] ^= 1;
+            }
+            if wrong("guards turned") {
+                turn_guards(&mut report[..length]);
             }
             if wrong("past the report") && length < report.len() {
                 report[length] ^= 1;

@@ -63,17 +63,17 @@ module _ (s ws : List ℕ) (v : RowVisit) (w : Want) where
       let i = placesBy v (w .ask) .from in
       sym (ap guardsBytes (guards-are s ws v w a) ∙ guards-spread i (placesBy v (w .ask) .end - i))
 
--- the places end at the height
-pub places-low : (v : RowVisit) (a : Ask) → v .start ≤ v .height → placesBy v a .end ≤ v .height
+-- the places are a stretch that ends at the height or below it
+pub places-low : (v : RowVisit) (a : Ask) → v .start ≤ v .height → (placesBy v a .from ≤ placesBy v a .end) × (placesBy v a .end ≤ v .height)
 unfolding placesBy
-places-low v Below h = h
-places-low v Nothing h = omega arith
-places-low v First h = omega arith
-places-low v Both h = omega arith
-places-low v Every h = omega arith
-places-low v Writes h = omega arith
-places-low v WritesIndexed h = omega arith
-places-low v Never h = omega arith
+places-low v Below h = (omega arith, h)
+places-low v Nothing h = (h, omega arith)
+places-low v First h = (h, omega arith)
+places-low v Both h = (h, omega arith)
+places-low v Every h = (h, omega arith)
+places-low v Writes h = (h, omega arith)
+places-low v WritesIndexed h = (h, omega arith)
+places-low v Never h = (h, omega arith)
 
 -- a walk that has come to the end
 pub span-stop : (f : ℕ → List ℕ) (i p e : ℕ) → p - i ≡ e - i → span f i p ≡ span f i e
