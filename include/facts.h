@@ -21,8 +21,8 @@ extern "C" {
 /* A refusal's number, and by whose doing it comes:
  *
  * The exporter, who wrote the description:
- *    1  bad tag, order or length, a flag not 0 or 1, an enum place or operand
- *       with no meaning
+ *    1  bad tag, order or length, a flag not 0 or 1, a handle size not 4 or 8,
+ *       an enum place or operand with no meaning
  *    2  over a largest value; a description has at most 1,048,576 bytes
  *    3  entry or callee without signature, local not below L, more parameters
  *       than L, an indexed access of 0 slots without layout, a call taking
@@ -67,7 +67,9 @@ enum {
  * bytes and takes the same steps, whatever workspace, buffer and limit it has.
  * The guards of a record rise by stack place, then by mask.
  *
- * description  its bytes; only read
+ * description  its bytes; only read. The last byte of field 1, its sixteenth,
+ *              is the size of an opaque handle, 4 or 8: a body packs a handle
+ *              with so many bytes
  * workspace    words to work in, whatever they hold: at least as many as
  *              facts_words says; each one more is room for one more entry in
  *              the queue. As it was after 1 to 5, zeros after all else

@@ -1,6 +1,8 @@
 //! Generated descriptions, given to the oracle and to the port.
-//! `compare COUNT [SEED [FROM]]`: COUNT of a seed's descriptions, from the
-//! FROMth on. The variable THREADS says how many work at it.
+//! `compare [--handle-4] COUNT [SEED [FROM]]`: COUNT of a seed's descriptions,
+//! from the FROMth on, held against types.rs; or made with handles of four bytes
+//! and held against the copy of types.rs that packs them so. The variable
+//! THREADS says how many work at it.
 //! With `cfg(linked)` the port is the static library; with `cfg(valgrind)` each
 //! buffer is an allocation of its own.
 #![allow(unexpected_cfgs)]
@@ -15,9 +17,9 @@ mod trial;
 
 use oracle::generate::coverage::Coverage;
 use oracle::generate::random::Random;
-use oracle::generate::{Generated, outcome, seed_of, with_measure};
+use oracle::generate::{Generated, outcome, seed_of, with_handle};
 use oracle::judged::judged;
-use oracle::model::Description;
+use oracle::model::{Description, SHORT_HANDLE, USUAL_HANDLE};
 use oracle::run::{self, Outcome};
 use oracle::text;
 use std::process::exit;
@@ -35,6 +37,8 @@ const THREADS: usize = 2;
 const MOST: u64 = 10;
 
 struct Shared {
+    /// The handles that are made; the rest of what is made is left out.
+    handle: u8,
     end: u64,
     run: u64,
     next: AtomicU64,
@@ -44,6 +48,11 @@ struct Shared {
 }
 
 impl Shared {
+    /// Whether the description is judged by the text that this run compares with.
+    fn holds(&self, d: &Description) -> bool {
+        judged(d) == (self.handle == USUAL_HANDLE)
+    }
+
     /// Counts and shows a difference, one at a time and no more than `MOST`.
     fn difference(&self, show: impl FnOnce()) {
         let _held = self.output.lock();
@@ -55,15 +64,18 @@ impl Shared {
 }
 
 fn main() {
-    let args: Vec<u64> = std::env::args().skip(1).map_while(|text| text.parse().ok()).collect();
-    if args.is_empty() || args.len() > 3 || args.len() != std::env::args().len() - 1 {
-        eprintln!("compare COUNT [SEED [FROM]]");
+    let short = std::env::args().nth(1).is_some_and(|text| text == "--handle-4");
+    let told = 1 + usize::from(short);
+    let args: Vec<u64> = std::env::args().skip(told).map_while(|text| text.parse().ok()).collect();
+    if args.is_empty() || args.len() > 3 || args.len() != std::env::args().len() - told {
+        eprintln!("compare [--handle-4] COUNT [SEED [FROM]]");
         exit(2);
     }
     trial::keep_panics();
     let from = args.get(2).copied().unwrap_or(0);
     let threads = std::env::var("THREADS").ok().and_then(|text| text.parse().ok()).unwrap_or(THREADS);
     let shared = Shared {
+        handle: if short { SHORT_HANDLE } else { USUAL_HANDLE },
         end: from + args[0],
         run: args.get(1).copied().unwrap_or(1),
         next: AtomicU64::new(from),
@@ -101,7 +113,7 @@ fn work(shared: &Shared) -> Coverage {
         }
         let seed = seed_of(shared.run, number);
         let made = std::panic::catch_unwind(|| {
-            let (one, measured) = with_measure(seed);
+            let (one, measured) = with_handle(seed, shared.handle);
             let expected = outcome(&one, &measured);
             (one, expected, measured.least_words)
         });
@@ -109,7 +121,7 @@ fn work(shared: &Shared) -> Coverage {
             shared.difference(|| println!("---- seed {seed}: the oracle itself stopped"));
             continue;
         };
-        if !coverage.includes(&one.bytes, judged) {
+        if !coverage.includes(&one.bytes, |d| shared.holds(d)) {
             continue;
         }
         coverage.add(&one.bytes, &expected);
@@ -117,7 +129,7 @@ fn work(shared: &Shared) -> Coverage {
             .or_else(|| words_differ(&one.bytes, least.map(|words| words + 1).ok_or(expected.number())));
         shared.compared.fetch_add(1, Ordering::Relaxed);
         if let Some(answer) = found {
-            shared.difference(|| show(seed, &one, &expected, &answer, &mut buffers));
+            shared.difference(|| show(shared, seed, &one, &expected, &answer, &mut buffers));
         }
     }
     coverage
@@ -140,13 +152,13 @@ fn compare(seed: u64, one: &Generated, expected: &Outcome, buffers: &mut Buffers
     }
 }
 
-fn show(seed: u64, one: &Generated, expected: &Outcome, answer: &str, buffers: &mut Buffers) {
+fn show(shared: &Shared, seed: u64, one: &Generated, expected: &Outcome, answer: &str, buffers: &mut Buffers) {
     println!("---- seed {seed}: words {}, report {}, limit {}", one.words, one.report_len, one.limit);
     println!("oracle: {}", shown(expected));
     println!("port:   {answer}");
     // Where it also differs within ample bounds, a smaller one is shown.
     let mut ample = |d: &Description| {
-        if !judged(d) {
+        if !shared.holds(d) {
             return None;
         }
         let (words, report_len, limit) = (d.least_words() + 1000, 1 << 20, 20_000);

@@ -29,13 +29,7 @@ pub(crate) mod dialogue {
     }
 }
 
-pub(crate) fn verbatim(
-    m: &keleusma::bytecode::Module,
-    entry: usize,
-    plan: dialogue::Plan,
-) -> Result<crate::found::Found, crate::LowerError> {
-    types::check(m, entry, plan).map(|analysis| analysis.found())
-}
+check_of!(verbatim, types);
 
 /// The time of `check` alone, and whether it accepts.
 pub(crate) fn timed(

@@ -1,6 +1,6 @@
 //! Refusals 1 to 4: the form of a description, from its bytes alone.
 
-use crate::model::{Shape, Take, split_field};
+use crate::model::{SHORT_HANDLE, Shape, Take, USUAL_HANDLE, split_field};
 use crate::ops::{self, Operands};
 use crate::run::{NONE, Refusal};
 
@@ -109,7 +109,9 @@ fn header(contents: &[u8], seen: &mut Seen, faults: &mut Faults) -> Option<()> {
     let slots = take.u16()?;
     let owns_bodies = take.u8()?;
     let _persistent_composite_bytes = take.u32()?;
+    let handle = take.u8()?;
     faults.note(1, layout > 1 || owns_bodies > 1 || layout == 0 && slots != 0);
+    faults.note(1, handle != SHORT_HANDLE && handle != USUAL_HANDLE);
     faults.note(2, float_bits_log2 > 31 || chunks > 64 || signatures > chunks || slots > 1024);
     faults.note(3, entry >= signatures);
     seen.chunks = usize::from(chunks);

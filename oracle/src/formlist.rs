@@ -112,7 +112,7 @@ fn whole() -> Description {
         code,
     };
     Description {
-        header: Header { float_bits_log2: 6, entry: 1, chunks: 3, signatures: 2, layout: 1, slots: 4, owns_bodies: 1, persistent_composite_bytes: 64 },
+        header: Header { float_bits_log2: 6, entry: 1, chunks: 3, signatures: 2, layout: 1, slots: 4, owns_bodies: 1, persistent_composite_bytes: 64, handle: 8 },
         chunks: vec![
             chunk(2, Some(signature.clone()), code),
             chunk(5, Some(Signature { params: vec![], result: signature.result }), vec![fitting(57), fitting(31)]),
@@ -149,6 +149,8 @@ fn bounds(list: &mut List, tag: u8, at: usize) {
                 list.numbers(at + flag, 1, &[0, 1, 2, 255]);
             }
             list.numbers(at + 11, 2, &[0, 1, 1024, 1025, 65535]);
+            list.numbers(at + 18, 1, &(0..256).collect::<Vec<_>>());
+            handles(list, at);
         }
         2 => {
             list.numbers(at + 3, 1, &[0, 1, 2, 255]);
@@ -185,6 +187,27 @@ fn bounds(list: &mut List, tag: u8, at: usize) {
         _ => {
             list.numbers(at + 3, 1, &[11, 12, 255]);
             list.numbers(at + 4, 1, &[0, 1, 2, 255]);
+        }
+    }
+}
+
+/// Sizes of a handle together with another fault of the field, and the field without
+/// its last byte or with one more: the lowest number counts.
+fn handles(list: &mut List, at: usize) {
+    const LEN: usize = 16;
+    let header = list.base[at..at + 3 + LEN].to_vec();
+    // Float bits, entry, chunks and the layout, each past what may be.
+    for (other, bad) in [(3, 32), (4, 9), (6, 65), (10, 2)] {
+        for size in [0, 3, 4, 5, 6, 7, 8, 9, 16, 255] {
+            let mut both = header.clone();
+            (both[other], both[2 + LEN]) = (bad, size);
+            list.replace(at, &both);
+        }
+        for len in [LEN - 1, LEN + 1] {
+            let mut both = header.clone();
+            (both[1], both[other]) = (len as u8, bad);
+            both.resize(3 + len, 8);
+            list.entry(false, at, 3 + LEN, &both, 1);
         }
     }
 }

@@ -1,9 +1,23 @@
 //! The oracle: types.rs, run on a description's bytes, answers as document 01
 //! says. See README.md.
 
+/// `check` of a text of types.rs, with all that it found.
+macro_rules! check_of {
+    ($name:ident, $text:ident) => {
+        pub(crate) fn $name(
+            m: &keleusma::bytecode::Module,
+            entry: usize,
+            plan: crate::coroutine::dialogue::Plan,
+        ) -> Result<crate::found::Found, crate::LowerError> {
+            $text::check(m, entry, plan).map(|analysis| analysis.found())
+        }
+    };
+}
+
 // Names that types.rs looks for at the root of its crate.
 mod coroutine;
 mod found;
+mod handle_4;
 mod probe;
 #[path = "probed.rs"]
 mod probed;

@@ -11,7 +11,7 @@ pub struct Shape {
     pub size: u32,
 }
 
-#[derive(Debug, Clone, PartialEq, Eq, Default)]
+#[derive(Debug, Clone, PartialEq, Eq)]
 pub struct Header {
     pub float_bits_log2: u8,
     pub entry: u16,
@@ -21,7 +21,29 @@ pub struct Header {
     pub slots: u16,
     pub owns_bodies: u8,
     pub persistent_composite_bytes: u32,
+    /// The bytes of an opaque handle in a body.
+    pub handle: u8,
 }
+
+impl Default for Header {
+    fn default() -> Self {
+        Header {
+            float_bits_log2: 0,
+            entry: 0,
+            chunks: 0,
+            signatures: 0,
+            layout: 0,
+            slots: 0,
+            owns_bodies: 0,
+            persistent_composite_bytes: 0,
+            handle: USUAL_HANDLE,
+        }
+    }
+}
+
+/// The bytes of a handle in types.rs, and of Surveying's new controllers.
+pub const USUAL_HANDLE: u8 = 8;
+pub const SHORT_HANDLE: u8 = 4;
 
 #[derive(Debug, Clone, PartialEq, Eq, Default)]
 pub struct Signature {
@@ -126,6 +148,7 @@ impl Description {
             put16(out, h.slots);
             out.push(h.owns_bodies);
             put32(out, h.persistent_composite_bytes);
+            out.push(h.handle);
         });
         for chunk in &self.chunks {
             field(&mut out, 2, |out| {
@@ -199,6 +222,7 @@ impl Description {
                         slots: take.u16()?,
                         owns_bodies: take.u8()?,
                         persistent_composite_bytes: take.u32()?,
+                        handle: take.u8()?,
                     }
                 }
                 2 if (1..=4).contains(&last) => {

@@ -6,10 +6,4 @@ pub(crate) use crate::coroutine::{NativeBodyReturn, dialogue};
 #[path = "../target/woven/probed.rs"]
 mod types;
 
-pub(crate) fn probed(
-    m: &keleusma::bytecode::Module,
-    entry: usize,
-    plan: dialogue::Plan,
-) -> Result<crate::found::Found, crate::LowerError> {
-    types::check(m, entry, plan).map(|analysis| analysis.found())
-}
+check_of!(probed, types);

@@ -1,9 +1,12 @@
 //! One call: a description, the words of a workspace, the length of a report
 //! buffer and a step limit give an outcome.
 
-use crate::model::Description;
+use crate::coroutine::dialogue::Plan;
+use crate::found::Found;
+use crate::model::{Description, SHORT_HANDLE};
 use crate::module::{Given, given};
-use crate::{LowerError, coroutine, form, probe, probed, report};
+use crate::{LowerError, coroutine, form, handle_4, probe, probed, report};
+use keleusma::bytecode::Module;
 use keleusma::told;
 
 /// An absent chunk or instruction.
@@ -120,11 +123,23 @@ fn signatures(d: &Description) -> Option<(u8, usize)> {
     None
 }
 
+/// `check` of a text of types.rs.
+type Check = fn(&Module, usize, Plan) -> Result<Found, LowerError>;
+
+/// The text that judges a description, as it is and with the probes.
+fn texts(d: &Description) -> (Check, Check) {
+    match d.header.handle {
+        SHORT_HANDLE => (handle_4::verbatim, handle_4::probed),
+        _ => (coroutine::verbatim, probed::probed),
+    }
+}
+
 fn run(d: &Description, capacity: u64, report_len: usize, limit: u32) -> Outcome {
+    let (verbatim, probed) = texts(d);
     let Given { module, entry, plan, declared } = given(d);
     told::begin(&declared);
     probe::begin(limit, capacity);
-    let seen = probed::probed(&module, entry, plan.clone());
+    let seen = probed(&module, entry, plan.clone());
     let private_kinds = probe::take_private_kinds();
     let (at, scanned) = (told::at(), probe::scanned());
     let takings = told::takings();
@@ -133,9 +148,9 @@ fn run(d: &Description, capacity: u64, report_len: usize, limit: u32) -> Outcome
         return refused(number, Some((chunk, instruction)), steps);
     }
 
-    // The published text must say the same.
+    // The text without probes must say the same.
     told::begin(&declared);
-    let published = coroutine::verbatim(&module, entry, plan);
+    let published = verbatim(&module, entry, plan);
     assert_eq!(told::takings(), takings, "probed and published steps differ");
     let (found, published) = match (seen, published) {
         (Ok(found), Ok(published)) => (found, published),

@@ -1,6 +1,6 @@
 //! Makes a description smaller as long as a property stays.
 
-use oracle::model::Description;
+use oracle::model::{Description, USUAL_HANDLE};
 use oracle::ops::{Operands, operands};
 
 /// Without instruction `at` of a chunk; later targets move along.
@@ -66,6 +66,7 @@ fn smaller(d: &Description) -> Vec<Description> {
     changed(&|d| _ = d.initializers.pop());
     changed(&|d| d.header.owns_bodies = 0);
     changed(&|d| d.header.persistent_composite_bytes = 0);
+    changed(&|d| d.header.handle = USUAL_HANDLE);
     for chunk in 0..d.chunks.len() {
         changed(&|d| d.chunks[chunk].tags.clear());
         changed(&|d| _ = d.chunks[chunk].code.pop());

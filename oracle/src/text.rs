@@ -1,7 +1,7 @@
 //! A description as lines of text, for reading and writing by hand.
 //!
 //! ```text
-//! header float=6 entry=0 chunks=1 signatures=1 layout=0 slots=0 owns=0 pool=0
+//! header float=6 entry=0 chunks=1 signatures=1 layout=0 slots=0 owns=0 pool=0 handle=8
 //! chunk reachable=1 block=Func L=0 D=1 params=0 tags=- shapes=- returns=Scalar:1:?
 //!   PushImmediate 2 : 0 1        # operands a b c, then taken and given
 //! site Scalar:3:s8 Scalar:3:s8   # yielded and reply, after its instruction
@@ -12,9 +12,9 @@
 //! ```
 //!
 //! In `header` and `chunk` every part may be left out: chunks and signatures
-//! are then as many as there are, the rest is 0, reachable 1. A shape is tag,
-//! kind and width: `?` unknown, `s8` scalar, `b16` body. A part that has no
-//! name stands as a number. `bytes` and hexadecimal numbers: bytes as they
+//! are then as many as there are, handle is 8, the rest is 0, reachable 1. A
+//! shape is tag, kind and width: `?` unknown, `s8` scalar, `b16` body. A part
+//! that has no name stands as a number. `bytes` and hexadecimal numbers: bytes as they
 //! are, for what is no description.
 
 use crate::model::*;
@@ -68,9 +68,9 @@ pub fn instruction_text(i: &Instruction) -> String {
 pub fn print(d: &Description) -> String {
     let h = &d.header;
     let mut out = format!(
-        "header float={} entry={} chunks={} signatures={} layout={} slots={} owns={} pool={}\n",
+        "header float={} entry={} chunks={} signatures={} layout={} slots={} owns={} pool={} handle={}\n",
         h.float_bits_log2, h.entry, h.chunks, h.signatures, h.layout, h.slots, h.owns_bodies,
-        h.persistent_composite_bytes
+        h.persistent_composite_bytes, h.handle
     );
     for (number, chunk) in d.chunks.iter().enumerate() {
         out += &format!(
@@ -175,6 +175,7 @@ fn header(words: &[&str], h: &mut Header) -> Result<(bool, bool), String> {
             "slots" => h.slots = number(value)?,
             "owns" => h.owns_bodies = number(value)?,
             "pool" => h.persistent_composite_bytes = number(value)?,
+            "handle" => h.handle = number(value)?,
             _ => return Err(format!("unknown part: {key}")),
         }
     }

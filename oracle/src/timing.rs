@@ -2,6 +2,7 @@
 
 use crate::coroutine;
 use crate::form;
+use crate::judged::judged;
 use crate::model::Description;
 use crate::module::{Given, given};
 use keleusma::told;
@@ -36,10 +37,11 @@ pub struct Timed {
 }
 
 impl Built {
-    /// None where the form is not good.
+    /// None where the form is not good, or types.rs does not judge it.
     pub fn new(bytes: &[u8]) -> Option<Built> {
         form::check(bytes).ok()?;
-        Some(Built(given(&Description::decode(bytes)?)))
+        let d = Description::decode(bytes)?;
+        judged(&d).then(|| Built(given(&d)))
     }
 
     /// One run of the published text. Only `check` is timed: the plan that it

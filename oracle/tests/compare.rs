@@ -29,7 +29,10 @@ fn driver() -> &'static str {
 
 /// Whether the run ended well, and its output.
 fn compared(count: &str, wrong: &str) -> (bool, String) {
-    let out = Command::new(driver()).args([count, "2"]).env("WRONG", wrong).output().expect("it runs");
+    driven(&[count, "2"], wrong)
+}
+fn driven(args: &[&str], wrong: &str) -> (bool, String) {
+    let out = Command::new(driver()).args(args).env("WRONG", wrong).output().expect("it runs");
     (out.status.success(), String::from_utf8(out.stdout).expect("text"))
 }
 
@@ -40,6 +43,23 @@ fn nothing_differs_from_itself() {
     assert_eq!(output.lines().last(), Some("3000 compared, 0 differences"));
     assert!(output.contains("| all | 3000 |\n| left out by intention | 0 |\n"));
     assert!(output.contains("| CallExternalNative | "));
+}
+
+/// With short handles: nothing differs from itself, a port that packs eight bytes does.
+#[test]
+fn short_handles_are_held_against_their_own_text() {
+    let (good, output) = driven(&["--handle-4", "3000", "2"], "");
+    assert!(good);
+    let last = output.lines().last().unwrap_or("");
+    let compared: u64 = last.split(' ').next().and_then(|number| number.parse().ok()).expect(last);
+    assert!(compared > 2_900 && last.ends_with(" compared, 0 differences"), "{last}");
+    assert!(output.contains(&format!("| all | {compared} |\n| left out by intention | {} |\n", 3000 - compared)));
+    let (good, output) = driven(&["--handle-4", "3000", "2"], "handle of eight");
+    assert!(!good);
+    assert!(output.lines().last().unwrap_or("").ends_with(" compared, 10 differences"));
+    // The other way no description has short handles.
+    let (good, _) = driven(&["3000", "2"], "handle of eight");
+    assert!(good);
 }
 
 #[test]

@@ -126,6 +126,30 @@ fn lengths_of_fields() {
     }
 }
 
+/// 4 and 8 pass; the rest, and a header of 15 bytes, is 1, whatever else is wrong in the field.
+#[test]
+fn sizes_of_a_handle() {
+    let faults: [(u8, fn(&mut Header)); 4] = [
+        (0, |_| {}),
+        (1, |h| h.layout = 2),
+        (2, |h| h.float_bits_log2 = 32),
+        (3, |h| h.entry = 9),
+    ];
+    for (number, fault) in faults {
+        for size in 0..=255 {
+            let expected = if matches!(size, 4 | 8) { number } else { 1 };
+            let bytes = with(|d| (fault(&mut d.header), d.header.handle = size).1);
+            assert_eq!(form(&bytes).0, expected, "{number} {size}");
+        }
+        // Fifteen bytes, as document 01 had them.
+        let mut short = with(|d| fault(&mut d.header));
+        assert_eq!(short[..3], [1, 16, 0]);
+        short.remove(18);
+        short[1] = 15;
+        assert_eq!(form(&short), (1, NO, NO), "{number}");
+    }
+}
+
 #[test]
 fn flags_and_places() {
     refused(1, NEITHER, |d| d.header.layout = 2);

@@ -2,8 +2,9 @@
 //! instructions, and bounds that fit exactly or fall short by one.
 
 use oracle::generate::coverage::over;
-use oracle::generate::{generate, outcome, seed_of, with_measure};
+use oracle::generate::{generate, outcome, seed_of, with_handle, with_measure};
 use oracle::judged::judged;
+use oracle::model::Description;
 use oracle::ops;
 use oracle::run::{Outcome, check};
 
@@ -31,6 +32,21 @@ fn every_outcome_and_every_instruction_is_reached() {
         assert_eq!(coverage.recorded[op] > 0, name != "Len", "{name}");
         assert!(coverage.recorded[op] <= coverage.accepted[op], "{name}");
     }
+}
+
+/// The size of a handle tells in a good part of what is made with short ones.
+#[test]
+fn short_handles_make_a_difference() {
+    let (mut short, mut differ) = (0, 0);
+    for number in 0..3000 {
+        let (one, measured) = with_handle(seed_of(6, number), 4);
+        let Some(mut d) = Description::decode(&one.bytes).filter(|d| d.header.handle == 4) else { continue };
+        short += 1;
+        d.header.handle = 8;
+        let words = measured.least_words.map_or(0, |least| least + 100_000);
+        differ += u64::from(check(&d.encode(), words, usize::MAX, 20_000) != measured.outcome);
+    }
+    assert!(short > 2_800 && differ > 100, "{short} {differ}");
 }
 
 #[test]

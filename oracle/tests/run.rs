@@ -136,6 +136,119 @@ fn guards() {
     assert_eq!(oracle::lookup::lookup(&report, 0, 2)[13..15], [0, 0]);
 }
 
+/// A report without reply, with one chunk: its inputs and result, the slots, then for
+/// each instruction the stack, the locals and the outputs from this place on.
+fn report_of(signature: &[Vec<u8>], slots: &[Vec<u8>], locals: &[Vec<u8>], records: &[(Vec<Vec<u8>>, u8, Vec<Vec<u8>>)]) -> Vec<u8> {
+    let mut out = vec![16, 4, 0, 0, 0, 0, 0];
+    let mut field = |tag: u8, contents: Vec<u8>| {
+        out.push(tag);
+        put16(&mut out, contents.len() as u16);
+        out.extend(contents);
+    };
+    field(17, [vec![0, 0], signature.concat()].concat());
+    slots.iter().for_each(|slot| field(18, slot.clone()));
+    for (ip, (stack, place, outputs)) in records.iter().enumerate() {
+        let head = [0, 0, ip as u8, 0, stack.len() as u8, 0, locals.len() as u8, 0, outputs.len() as u8, 0, 0, 0];
+        let outputs = outputs.iter().zip(*place..).map(|(cell, place)| [vec![place, 0], cell.clone()].concat());
+        field(19, [head.to_vec(), stack.concat(), locals.concat(), outputs.collect::<Vec<_>>().concat()].concat());
+    }
+    out
+}
+
+/// The examples with handles, each byte worked by hand. The evaluated cases of the
+/// definition have these answers too (oracle/cases).
+#[test]
+fn handles_worked_by_hand() {
+    let none = [(0, 0, 0); 4];
+    let of = |mask, width, extents, origin| cell(mask, width, extents, 0, origin, (NO, 0));
+    let handle = |origin| of(128, (0, 0), none, origin);
+    // Five instructions, three times: the slot takes the tuple, nothing more changes, validation.
+    let four = [(1, 4, 4), (0, 0, 0), (0, 0, 0), (0, 0, 0)];
+    let tuple = || of(256, (2, 4), four, NO);
+    let records = [
+        (vec![], 0, vec![handle(0)]),
+        (vec![handle(0)], 0, vec![tuple()]),
+        (vec![tuple()], 0, vec![]),
+        (vec![], 0, vec![tuple()]),
+        (vec![tuple()], 0, vec![]),
+    ];
+    let report = report_of(&[handle(NO), tuple()], &[of(256, (0, 0), four, NO)], &[handle(NO)], &records);
+    assert_eq!(ample(&example("handle-4")), Outcome::Accepted { report, steps: 15 });
+    // Eight bytes do not pack into four; two rounds, then validation comes to it.
+    assert_eq!(ample(&example("handle-8")), refused(15, 0, 1, 12));
+
+    // A word, or the handle in its stead: 4 to 8 bytes; then the handle's 4, then the float's 8. From 5 on the way
+    // past the If comes first, and each is visited again when the handle comes: 13 takings, and again in validation.
+    let truth = |origin| of(4098, (1, 1), none, origin);
+    let float = |origin| of(32, (1, 8), none, origin);
+    let word = || of(8, (1, 8), none, NO);
+    let either = || of(136, (0, 0), none, NO);
+    let array = || of(512, (0, 0), [(0, 0, 0), (1, 16, 20), (0, 0, 0), (0, 0, 0)], NO);
+    let records = [
+        (vec![], 0, vec![word()]),
+        (vec![word()], 1, vec![truth(0)]),
+        (vec![word(), truth(0)], 1, vec![]),
+        (vec![word()], 0, vec![]),
+        (vec![], 0, vec![handle(1)]),
+        (vec![either()], 1, vec![handle(1)]),
+        (vec![either(), handle(1)], 2, vec![float(2)]),
+        (vec![either(), handle(1), float(2)], 0, vec![array()]),
+        (vec![array()], 0, vec![]),
+    ];
+    let inputs = [truth(NO), handle(NO), float(NO)];
+    let anything = of(8191, (0, 0), [(2, 0, 0); 4], NO);
+    let report = report_of(&[&inputs[..], &[anything]].concat(), &[], &inputs, &records);
+    assert_eq!(ample(&example("handle-or-word")), Outcome::Accepted { report, steps: 26 });
+}
+
+/// Parameters of these scalar kinds, packed into a tuple of so many bytes.
+fn tuple(float: u8, handle: u8, kinds: &[u8], size: u32) -> Outcome {
+    let count = kinds.len();
+    let shapes: Vec<String> = kinds.iter().map(|kind| format!("Scalar:{kind}:?")).collect();
+    let reads: String = (0..count).map(|local| format!("GetLocal {local} : 0 1\n")).collect();
+    ample(&parsed(&format!(
+        "header float={float} handle={handle}
+         chunk L={count} D={count} params={count} shapes={} returns=Top:0:?
+         {reads}NewComposite flat 0 {size} : {count} 1\nReturn : 0 0",
+        shapes.join(",")
+    )))
+}
+
+/// Floats of 4 and 8 bytes beside handles of 4 and 8.
+#[test]
+fn packed_sizes_over_both_sizes() {
+    let lists: [&[u8]; 8] = [&[5], &[7], &[5, 7], &[7, 5, 7], &[5, 7, 5], &[7, 7], &[3, 7, 0], &[0, 1, 2, 3, 4, 5, 7]];
+    let mut sums = Vec::new();
+    for (float_bits_log2, float) in [(5, 4), (6, 8)] {
+        for handle in [4, 8] {
+            for kinds in lists {
+                // Unit, bool, byte, word, fixed, float, text (packs nowhere), handle.
+                let bytes = [0, 1, 1, 8, 8, float, 0, u32::from(handle)];
+                let sum: u32 = kinds.iter().map(|kind| bytes[usize::from(*kind)]).sum();
+                let count = kinds.len();
+                // Room enough leaves the extent as it is; one byte less is refused.
+                for room in [sum, sum + 1, 65535] {
+                    let outcome = tuple(float_bits_log2, handle, kinds, room);
+                    let Outcome::Accepted { report, .. } = outcome else { panic!("{outcome:?}") };
+                    let record = oracle::lookup::lookup(&report, 0, count as u16 + 1);
+                    let extents = [(1, sum, sum), (0, 0, 0), (0, 0, 0), (0, 0, 0)];
+                    assert_eq!(&record[15..64], cell(256, (2, sum), extents, 0, NO, (NO, 0)), "{float} {handle} {kinds:?}");
+                }
+                let outcome = tuple(float_bits_log2, handle, kinds, sum - 1);
+                assert_eq!(outcome, refused(15, 0, count as u16, 2 * count as u32 + 3), "{float} {handle} {kinds:?}");
+                sums.push(sum);
+            }
+        }
+    }
+    // Worked by hand: a float; a handle; both; two handles and a float; two floats and a handle; two handles; a word,
+    // a handle and a unit; all seven.
+    let four_four = [4, 4, 8, 12, 12, 8, 12, 26];
+    let four_eight = [4, 8, 12, 20, 16, 16, 16, 30];
+    let eight_four = [8, 4, 12, 16, 20, 8, 12, 30];
+    let eight_eight = [8, 8, 16, 24, 24, 16, 16, 34];
+    assert_eq!(sums, [four_four, four_eight, eight_four, eight_eight].concat());
+}
+
 #[test]
 fn words_of_a_workspace() {
     // 16 x (3 x (0+1+6) + 0 + 2, 4 x (1+2+6) + 1 + 2, and 4).

@@ -19,6 +19,17 @@ fn examples_print_and_parse_back() {
 }
 
 #[test]
+fn a_handle_has_eight_bytes_unless_told() {
+    let handle = |text: &str| text::parse(text).map(|d| d.header.handle);
+    assert_eq!(handle("header float=6"), Ok(8));
+    assert_eq!(handle("header handle=4"), Ok(4));
+    // Any byte may be told; the form says which are good.
+    assert_eq!(handle("header handle=255"), Ok(255));
+    assert!(handle("header handle=256").is_err());
+    assert!(text::print(&text::parse("header handle=4").expect("parses")).contains(" handle=4\n"));
+}
+
+#[test]
 fn generated_bytes_come_back_through_the_text() {
     let (mut described, mut raw) = (0, 0);
     for seed in 0..3000 {

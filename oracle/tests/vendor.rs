@@ -35,6 +35,19 @@ fn without_probes_and_tail_the_woven_texts_are_types_rs() {
     assert_eq!(plain(&file("target/woven/probed.rs"), &tail), (types, 6));
 }
 
+/// The one constant, and no other byte.
+#[test]
+fn the_copy_for_short_handles_differs_in_one_line() {
+    let types = file("vendor/types.rs");
+    let copy = file("target/woven/handle-4.rs");
+    let differ: Vec<(&str, &str)> = types.lines().zip(copy.lines()).filter(|(a, b)| a != b).collect();
+    assert_eq!(differ, [("            (OPAQUE, 8),", "            (OPAQUE, 4),")]);
+    assert_eq!((types.lines().count(), types.len()), (copy.lines().count(), copy.len()));
+    let tail = file("standins/tail.rs");
+    assert_eq!(plain(&file("target/woven/handle-4-verbatim.rs"), &tail), (copy.clone(), 0));
+    assert_eq!(plain(&file("target/woven/handle-4-probed.rs"), &tail), (copy, 6));
+}
+
 #[test]
 fn an_anchor_that_is_missing_or_doubled_stops_the_weaving() {
     let folder = std::env::var("ORACLE_DIR").expect("ORACLE_DIR");
@@ -54,6 +67,14 @@ fn an_anchor_that_is_missing_or_doubled_stops_the_weaving() {
     assert!(times > 1);
     let answer = weave(&format!("after\n{doubled}\nx // probe\n"));
     assert!(answer.contains(&format!("found {times} times")), "{answer}");
+    let changes = format!("{folder}/target/woven/bad-changes.txt");
+    std::fs::write(&changes, format!("{doubled}\nx\n")).expect("written");
+    let out = Command::new(format!("{folder}/target/weave"))
+        .args(["--copy", "vendor/types.rs", &changes, "target/woven/bad.rs"])
+        .current_dir(&folder)
+        .output()
+        .expect("weave runs");
+    assert!(String::from_utf8_lossy(&out.stderr).contains(&format!("found {times} times")));
 }
 
 #[test]

@@ -56,7 +56,8 @@ impl fmt::Display for By {
 
 /// What each number means, in the words of include/facts.h; a test holds the two together.
 const MEANINGS: [&str; 18] = [
-    "bad tag, order or length, a flag not 0 or 1, an enum place or operand with no meaning",
+    "bad tag, order or length, a flag not 0 or 1, a handle size not 4 or 8, an enum place or operand with no \
+     meaning",
     "over a largest value",
     "entry or callee without signature, local not below L, more parameters than L, an indexed access of 0 slots \
      without layout, a call taking more than its callee's parameters, or a Yield without site",
@@ -186,6 +187,9 @@ pub fn outcome(answer: [u32; 5]) -> Outcome {
 /// A description has one report: every call that accepts it writes the same
 /// bytes and takes the same steps, whatever workspace, buffer and limit it has.
 /// The guards of a record rise by stack place, then by mask.
+///
+/// The last byte of the description's field 1, its sixteenth, is the size of an
+/// opaque handle, 4 or 8: a body packs a handle with so many bytes.
 pub fn check(description: &[u8], workspace: &mut [u32], report: &mut [u8], limit: u32) -> Outcome {
     outcome(numbers(description, workspace, report, limit).1)
 }

@@ -1,7 +1,8 @@
 -- The form of a description: refusals 1 to 4, in byte order, the lowest number of a field; then the two late looks; and W.
 -- Of document 01: "Description" (fields, largest values, taken and given), "Exporter" in "Turned back", W in "Steps and passes". Of
 -- types.rs: nothing, it is given a module; 3 and 4 turn away what it would panic on, and more (D2, docs/DIFFERENCES.md), and 4 is the most
--- that may be given (D10). Where document 01 leaves a choice: readings A1 to A28 of docs/DECISIONS.md.
+-- that may be given (D10). Where document 01 leaves a choice: readings A1 to A28 of docs/DECISIONS.md. Of document 02: Two, the last byte
+-- of field 1.
 -- It is said as a walk, because the first fault in byte order counts; the code has the same `Scan`. What a description that passes has, and
 -- that W is document 01's sum, is a theorem: `good-form` (form_laws). Left open: bytes that no rule reads (D12) may have any value.
 -- How it ends: `fieldsFrom` (description/specs/Fields.antt) is the list of the fields, no longer than the description; the walks go along
@@ -152,10 +153,17 @@ unfoldable pub fitOf : ℕ → Fit
 fitOf op = getD fits op (line 0 64 0 4 noOperand)
 
 -- ---- the rules of each field
+abbrev pub headerLen : ℕ
+headerLen = 16
+
+-- document 02, Two: the size of an opaque handle
+abbrev pub handleFine : ℕ → Bool
+handleFine n = eqb n 4 || eqb n 8
+
 unfoldable pub headerFault : Bool → ℕ → Header → ℕ
 headerFault due len h =
     lowest
-    (not due || not (eqb len 15) || ltb 1 (h .layout) || ltb 1 (h .owns) || (eqb (h .layout) 0 && not (eqb (h .slots) 0)))
+    (not due || not (eqb len headerLen) || not (handleFine (h .handle)) || ltb 1 (h .layout) || ltb 1 (h .owns) || (eqb (h .layout) 0 && not (eqb (h .slots) 0)))
     (ltb mostFloat (h .float) || ltb mostChunks (h .chunks) || ltb (h .chunks) (h .signatures) || ltb mostSlots (h .slots))
     (leb (h .signatures) (h .entry))
     false

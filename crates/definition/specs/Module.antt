@@ -1,4 +1,5 @@
--- The description as values: what `Module` and the dialogue `Plan` are to types.rs.
+-- The description as values: what `Module` and the dialogue `Plan` are to types.rs, and the size of a handle, which it doesn't have
+-- (document 02, Two).
 use Prim.Native.Nat.{ℕ, zero, suc, _+_, _/_, _^_}
 use mathlib.Core.Bool.{Bool, cond}
 use mathlib.Core.Option.{Option, none, some}
@@ -39,8 +40,9 @@ pub record Native : Type 0 where
   pub snapshot : Bool
 
 pub record Module : Type 0 where
-  -- the bytes of a float
+  -- the bytes of a float, and of an opaque handle, in a body
   pub float : ℕ
+  pub handle : ℕ
   pub entry : ℕ
   pub signatures : ℕ
   pub layout : Bool
@@ -109,6 +111,7 @@ unfoldable pub moduleFrom : List ℕ → Header → List ℕ → Module
 moduleFrom s h ps =
     record {
       float = 2 ^ (h .float) / 8;
+      handle = h .handle;
       entry = h .entry;
       signatures = h .signatures;
       layout = flag (h .layout);

@@ -5,7 +5,7 @@
 -- rule makes"; the outputs of tag 19.
 -- Readings, all of them what types.rs does: D4 `same` gives the first operand's kinds where no one kind is common, D6 reads of 0 slots, D9
 -- Snapshot. Left out: the pool arithmetic of `data_width`, which no outcome shows (D12). An origin past 65534 is none, since 65535 says
--- none in a report.
+-- none in a report. Differs from types.rs by document 02, Two: a body packs a handle with the header's size, there with 8 (line 195).
 -- Nothing is left open. Recursion goes along lists (operands, natives).
 use Prim.Native.Nat.{ℕ, zero, suc, _-_, _%_}
 use mathlib.Core.Bool.{Bool, true, false, cond, _&&_}
@@ -145,7 +145,7 @@ replyCell (some x) = replyShape (x .reply)
 
 -- the extent of a flat construction: Unknown where its operands do not pack within it
 unfoldable pub constructedExtent : Visit → Extent
-constructedExtent v = constructed (packedExtent (v .args) (v .code .float) 8) (instr v .b % 256) (instr v .c)
+constructedExtent v = constructed (packedExtent (v .args) (v .code .float) (v .code .handle)) (instr v .b % 256) (instr v .c)
 
 unfoldable pub compositeCell : Visit → Cell
 compositeCell v =

@@ -35,7 +35,7 @@ ofTag t s (p ∷ ps) = cond (eqb (tagAt s p) t) (p ∷ ofTag t s ps) (ofTag t s 
 unfoldable pub shapeOf : List ℕ → ℕ → Shape
 shapeOf s q = record { tag = at8 s q; kind = at8 s (q + 1); width = at8 s (q + 2); size = at32 s (q + 3) }
 
--- field 1
+-- field 1; `persistent_composite_bytes`, which no rule reads, stands before the size of a handle
 unfoldable pub headerOf : List ℕ → ℕ → Header
 headerOf s p =
     record {
@@ -46,6 +46,7 @@ headerOf s p =
       layout = at8 s (p + 10);
       slots = at16 s (p + 11);
       owns = at8 s (p + 13);
+      handle = at8 s (p + 18);
     }
 
 -- field 2: the fixed part, the type tags, the parameter shapes, the return shape

@@ -22,6 +22,7 @@ pub fn header_at(s: &[u8], p: usize) -> Header
         layout: u8_at(s, p + 10),
         slots: u16_at(s, p + 11),
         owns: u8_at(s, p + 13),
+        handle: u8_at(s, p + 18),
     }
 }
 

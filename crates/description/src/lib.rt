@@ -27,6 +27,7 @@ pub struct Header {
     pub layout: u8,
     pub slots: u16,
     pub owns: u8,
+    pub handle: u8,
 }
 
 // The fixed part of field 2.

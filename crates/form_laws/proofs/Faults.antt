@@ -14,11 +14,12 @@ use Rattle.description.specs.declared.Instr.{Instr}
 use Rattle.description.specs.Fields.{shapeOf, tagsAt}
 use Rattle.definition.specs.declared.Scan.{Scan}
 use Rattle.definition.specs.Module.{signedParams}
-use Rattle.definition.specs.Form.{lowest, local, slots, callee, fitOf, shapeFine, tagsFine, chunkLen, signatureFine, senseless, tooLarge, misplaced, unfitting, headerFault, chunkFault, instrFault, siteFault, tableFault}
+use Rattle.definition.specs.Form.{lowest, headerLen, handleFine, local, slots, callee, fitOf, shapeFine, tagsFine, chunkLen, signatureFine, senseless, tooLarge, misplaced, unfitting, headerFault, chunkFault, instrFault, siteFault, tableFault}
 use Rattle.form_laws.proofs.Tests.{and-off, none-of}
 
 pub record HeaderFine (n : ℕ) (h : Header) : Type 0 where
-  pub len : n ≡ 15
+  pub len : n ≡ headerLen
+  pub handle : handleFine (h .handle) ≡ true
   pub float : h .float ≤ 31
   pub chunks : h .chunks ≤ 64
   pub signatures : h .signatures ≤ h .chunks
@@ -30,12 +31,13 @@ unfolding headerFault
 header-fine due len h e =
     let (x, y, z, o) =
     none-of
-    (not due || not (eqb len 15) || ltb 1 (h .layout) || ltb 1 (h .owns) || (eqb (h .layout) 0 && not (eqb (h .slots) 0)))
+    (not due || not (eqb len headerLen) || not (handleFine (h .handle)) || ltb 1 (h .layout) || ltb 1 (h .owns) || (eqb (h .layout) 0 && not (eqb (h .slots) 0)))
     (ltb 31 (h .float) || ltb 64 (h .chunks) || ltb (h .chunks) (h .signatures) || ltb 1024 (h .slots))
     (leb (h .signatures) (h .entry)) false e in (
       not-false due (search (or-left, or-right)),
       record {
-        len = eqb-true len 15 (not-false (eqb len 15) (search (or-left, or-right)));
+        len = eqb-true len headerLen (not-false (eqb len headerLen) (search (or-left, or-right)));
+        handle = not-false (handleFine (h .handle)) (search (or-left, or-right));
         float = ltb-false 31 (h .float) (search (or-left, or-right));
         chunks = ltb-false 64 (h .chunks) (search (or-left, or-right));
         signatures = ltb-false (h .chunks) (h .signatures) (search (or-left, or-right));

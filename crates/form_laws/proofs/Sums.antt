@@ -83,7 +83,7 @@ module _ (s : List ℕ) (w : ℕ) where
   walk-cells (other {p} {ps} {t} j n c k) =
       rw (code-other s p ps (omega (arith, c .tag, c .past)), chunks-other s p ps (t .signatures) (t .seen) (omega (arith, c .tag, c .past))) (walk-cells k)
 
-  -- at most 58 cells for a byte: a header has 18 bytes and 1028 cells, an instruction 18 and 326, a chunk 11 or more and 18
+  -- at most 58 cells for a byte: a header has 19 bytes and 1028 cells, an instruction 18 and 326, a chunk 11 or more and 18
   pub walk-small : {p : ℕ} {ps : List ℕ} {t : Scan} → Walk s w p ps t → t .cells ≤ 58 * p → p ≤ length s → t .locals ≤ 256 → t .stack ≤ 64
       → w ≤ 928 * length s
   unfolding nextAt

@@ -142,6 +142,7 @@ module _ (s : List ℕ) (w : ℕ) (st : Starts s w) where
         order = all-ordered s w st;
         next = omega (arith, f .len);
         float = f .float;
+        handle = f .handle;
         chunks = chunks;
         chunksMost = omega (arith, f .chunks);
         signatures = omega (arith, f .signatures);

@@ -9,7 +9,7 @@ use Rattle.widths.specs.declared.Shape.{Shape}
 use Rattle.description.specs.Fields.{tagAt, nextAt, headerOf, fieldsFrom, ofTag}
 use Rattle.definition.specs.Module.{Module, Chunk, Line, moduleOf}
 use Rattle.definition.specs.Bounds.{mostBytes, mostFloat, mostChunks, mostSlots, mostLocals, mostStack, mostArity, mostTags, mostParams, mostInstrs, mostTaken, mostGiven, mostNatives, mostFields}
-use Rattle.definition.specs.Form.{fitOf, local, callee, senseless, tooLarge}
+use Rattle.definition.specs.Form.{headerLen, handleFine, fitOf, local, callee, senseless, tooLarge}
 use Rattle.definition.specs.Leaves.{lineAt}
 use Rattle.definition.specs.Start.{isSite}
 use Rattle.form_laws.specs.Order.{ordered}
@@ -86,10 +86,11 @@ pub record Good (s : List ℕ) (w : ℕ) : Type 0 where
   -- the header stands first
   pub some-bytes : 0 < length s
   pub header : tagAt s 0 ≡ 1
-  pub next : nextAt s 0 ≡ 18
+  pub next : nextAt s 0 ≡ 3 + headerLen
   -- each field stands where the form check wants it
   pub order : ordered s 0 (fieldsFrom s 0) ≡ true
   pub float : headerOf s 0 .float ≤ mostFloat
+  pub handle : handleFine (moduleOf s .handle) ≡ true
   pub chunks : length (moduleOf s .chunks) ≡ headerOf s 0 .chunks
   pub chunksMost : length (moduleOf s .chunks) ≤ mostChunks
   pub signatures : moduleOf s .signatures ≤ length (moduleOf s .chunks)

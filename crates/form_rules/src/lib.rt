@@ -13,7 +13,10 @@ pub use tables::table_fault;
 use widths::Shape;
 ghost use mathlib.Core.Path.{_≡_};
 ghost use Prim.Native.Nat.{_<_, _^_};
-ghost use Rattle.definition.specs.Form.{lowest, headerFault, shapeFine, siteFault};
+ghost use Rattle.definition.specs.Form.{lowest, handleFine, headerFault, shapeFine, siteFault};
+
+// The bytes of field 1.
+const HEADER_LEN: u16 = 16;
 
 // Document 01's largest values of the header.
 const MOST_FLOAT: u8 = 31;
@@ -41,11 +44,23 @@ pub fn low(one: bool, two: bool, three: bool, four: bool) -> u8
     0
 }
 
+// An opaque handle has four bytes or eight.
+fn handle_fine(bytes: u8) -> bool
+    ensures { λ r. ⌜ r ≡ handleFine bytes ⌝ }
+{
+    (bytes == 4) | (bytes == 8)
+}
+
 pub fn header_fault(due: bool, len: u16, h: Header) -> u8
     ensures { λ r. ⌜ r ≡ headerFault due len h ⌝ }
 {
     low(
-        !due | (len != 15) | (1 < h.layout) | (1 < h.owns) | ((h.layout == 0) & (h.slots != 0)),
+        !due
+            | (len != HEADER_LEN)
+            | !handle_fine(h.handle)
+            | (1 < h.layout)
+            | (1 < h.owns)
+            | ((h.layout == 0) & (h.slots != 0)),
         (MOST_FLOAT < h.float)
             | (MOST_CHUNKS < h.chunks)
             | (h.chunks < h.signatures)

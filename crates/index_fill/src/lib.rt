@@ -48,6 +48,7 @@ fn first_tables(s: &[u8], queue: usize) -> Tables
         entry: h.entry as usize,
         slots: h.slots as usize,
         float: (1u32 << h.float) / 8,
+        handle: h.handle as u32,
         owns: h.owns == 1,
         layout: h.layout == 1,
         natives_at: 0,

@@ -170,6 +170,10 @@ module _ (s : List ℕ) (t : Tables) (e : t ≡ tablesOf s) where
   unfolding tablesOf
   float-is = ap (λ (x : Tables). x .float) e
 
+  pub handle-is : t .handle ≡ moduleOf s .handle
+  unfolding tablesOf
+  handle-is = ap (λ (x : Tables). x .handle) e
+
   pub shared-are : t .shared ≡ length (moduleOf s .shared)
   unfolding tablesOf
   shared-are = ap (λ (x : Tables). x .shared) e

@@ -36,6 +36,7 @@ tablesOf s =
       entry = moduleOf s .entry;
       slots = moduleOf s .slots;
       float = moduleOf s .float;
+      handle = moduleOf s .handle;
       owns = moduleOf s .owns;
       layout = moduleOf s .layout;
       «natives_at» = getD (ofTag 5 s (fieldsFrom s 0)) 0 0;

@@ -43,6 +43,7 @@ pub struct Tables {
     pub entry: usize,
     pub slots: usize,
     pub float: u32,
+    pub handle: u32,
     pub owns: bool,
     pub layout: bool,
     pub natives_at: usize,

@@ -1,4 +1,5 @@
--- `packed_extent` of types.rs, the float size and the handle size both left open, and the extent of a construction.
+-- `packed_extent` of types.rs, the float size and the handle size both left open, and the extent of a construction. types.rs has 8 for a
+-- handle (line 195); the size comes from the header since document 02, Two.
 use Prim.Native.Nat.{ℕ, _+_, _-_, min, max}
 use mathlib.Core.Bool.{Bool, cond, not, _&&_, _||_}
 use mathlib.Core.List.{List, [], _∷_}

@@ -72,16 +72,16 @@ pub fn common_kinds(ws: &[u32], v: RowVisit) -> Mask
     m
 }
 
-// The packed size of all operands.
-pub fn packed_at(ws: &[u32], v: RowVisit, float: u32) -> Packed
+// The packed size of all operands; float and handle: the sizes of a float and of an opaque handle.
+pub fn packed_at(ws: &[u32], v: RowVisit, float: u32, handle: u32) -> Packed
     requires { ⌜ Standing (now ws) v ⌝ }
-    ensures { λ r. ⌜ r ≡ packedExtent (argsIn (now (ws .entry)) v) float 8 ⌝ }
+    ensures { λ r. ⌜ r ≡ packedExtent (argsIn (now (ws .entry)) v) float handle ⌝ }
 {
     let mut p = v.start;
     let mut sum = Packed::EMPTY;
     while p < v.height {
         let x = load(ws, place_at(v.row, p));
-        sum = sum.and_then(packed_one(x, float, 8));
+        sum = sum.and_then(packed_one(x, float, handle));
         p += 1;
     }
     sum
@@ -94,6 +94,6 @@ pub fn constructed_at(s: &[u8], ws: &[u32], t: Tables, v: RowVisit) -> Extent
     ensures { λ r. ⌜ r ≡ constructedExtent (visitIn (now (s .entry)) (now (ws .entry)) v) ⌝ }
 {
     let ins = v.ins;
-    let p = packed_at(ws, v, t.float);
+    let p = packed_at(ws, v, t.float, t.handle);
     p.constructed((ins.b % 256) as u8, ins.c)
 }

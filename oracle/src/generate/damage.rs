@@ -14,14 +14,15 @@ pub fn edit(r: &mut Random, d: &mut Description) {
     let value = odd(r);
     let small = value as u8;
     match r.weighted(&[6, 10, 60, 6, 4, 4, 4]) {
-        0 => match r.below(7) {
+        0 => match r.below(8) {
             0 => d.header.float_bits_log2 = small,
             1 => d.header.entry = value as u16,
             2 => d.header.chunks = value as u16,
             3 => d.header.signatures = value as u16,
             4 => d.header.layout = r.below(3) as u8,
             5 => d.header.slots = value as u16,
-            _ => d.header.owns_bodies = r.below(3) as u8,
+            6 => d.header.owns_bodies = r.below(3) as u8,
+            _ => d.header.handle = r.pick(&[0, 1, 2, 3, 5, 6, 7, 9, 12, 16, 255]),
         },
         1 => {
             let Some(chunk) = some(r, &mut d.chunks) else { return };

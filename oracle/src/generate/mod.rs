@@ -10,7 +10,7 @@ mod soup;
 mod value;
 mod world;
 
-use crate::model::Description;
+use crate::model::{Description, USUAL_HANDLE};
 use crate::run::{self, Measured, Outcome};
 use code::Size;
 use random::Random;
@@ -38,8 +38,13 @@ pub fn generate(seed: u64) -> Generated {
 
 /// The description of a seed, and its ample run.
 pub fn with_measure(seed: u64) -> (Generated, Measured) {
+    with_handle(seed, USUAL_HANDLE)
+}
+
+/// The same with handles of so many bytes, damage apart.
+pub fn with_handle(seed: u64, handle: u8) -> (Generated, Measured) {
     let mut r = Random::new(seed);
-    let bytes = description(&mut r);
+    let bytes = description(&mut r, handle);
     let measured = ample(&bytes);
     let (words, report_len, limit) = bounds(&mut r, &measured);
     (Generated { bytes, words, report_len, limit }, measured)
@@ -50,7 +55,7 @@ fn ample(bytes: &[u8]) -> Measured {
     run::measure(bytes, least + AMPLE_QUEUE, usize::MAX, AMPLE_STEPS)
 }
 
-fn description(r: &mut Random) -> Vec<u8> {
+fn description(r: &mut Random, handle: u8) -> Vec<u8> {
     let how = r.weighted(&[630, 130, 110, 80, 40, 9, 1]);
     let chunks = match how {
         6 => r.pick(&[1, 1, 20, 64]),
@@ -60,7 +65,7 @@ fn description(r: &mut Random) -> Vec<u8> {
         2 | 6 => 0,
         _ => r.pick(&[0, 0, 0, 4, 12, 60]),
     };
-    let mut w = world::world(r, chunks, reckless);
+    let mut w = world::world(r, handle, chunks, reckless);
     if how == 5 {
         let at = r.below(chunks);
         w.d.chunks[at].locals = r.pick(&[64, 255, 256]);

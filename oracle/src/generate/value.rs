@@ -294,7 +294,7 @@ impl Code<'_> {
             self.put(NEW_COMPOSITE, taken, 1, [1, place, 0], &[likely(kind)]);
             return;
         }
-        let need: u32 = self.stack[base..].iter().map(|v| v.bytes(self.w.float_bytes)).fold(0, u32::saturating_add);
+        let need: u32 = self.stack[base..].iter().map(|v| v.bytes(self.w.sizes)).fold(0, u32::saturating_add);
         let spare = self.r.weighted(&[740, 120, 8, 120, 12]);
         let size = match spare {
             0 => need,

@@ -41,16 +41,38 @@ impl Likely {
         Likely { mask: self.mask | other.mask, size: self.size.max(other.size) }
     }
     /// The bytes that the value packs into at most.
-    pub fn bytes(self, float_bytes: u32) -> u32 {
+    pub fn bytes(self, sizes: Sizes) -> u32 {
         let mut most = 0;
-        for (mask, bytes) in
-            [(BOOL | BYTE, 1), (WORD | FIXED | OPAQUE, 8), (FLOAT, float_bytes), (BODY, self.size)]
-        {
+        for (mask, bytes) in [
+            (BOOL | BYTE, 1),
+            (WORD | FIXED, 8),
+            (FLOAT, sizes.float),
+            (OPAQUE, sizes.handle),
+            (BODY, self.size),
+        ] {
             if self.mask & mask != 0 {
                 most = most.max(bytes);
             }
         }
         most
+    }
+}
+
+/// The bytes of a float and of a handle in a body.
+#[derive(Debug, Clone, Copy, PartialEq, Eq)]
+pub struct Sizes {
+    pub float: u32,
+    pub handle: u32,
+}
+impl Sizes {
+    /// The scalar kinds, the usual ones more often. Where handles are short
+    /// there are more of them, or hardly a body would have one.
+    fn kinds(self) -> [u8; 16] {
+        if self.handle == u32::from(SHORT_HANDLE) {
+            [0, 1, 1, 2, 2, 3, 3, 3, 7, 7, 4, 7, 5, 7, 6, 7]
+        } else {
+            [0, 1, 1, 2, 2, 3, 3, 3, 3, 3, 4, 4, 5, 5, 6, 7]
+        }
     }
 }
 
@@ -72,7 +94,7 @@ pub struct World {
     pub d: Description,
     /// Thousandths of choices that look at no kind.
     pub reckless: usize,
-    pub float_bytes: u32,
+    pub sizes: Sizes,
     pub slots: Vec<Likely>,
     pub placed: Vec<bool>,
     /// Sites may be made, with this reply mostly.
@@ -89,11 +111,11 @@ pub fn size_for(r: &mut Random, kind: u16) -> u32 {
     if kind & ENUM != 0 && !r.often(40) { size.max(8) } else { size }
 }
 
-pub fn shape(r: &mut Random, float_bytes: u32) -> Shape {
+pub fn shape(r: &mut Random, sizes: Sizes) -> Shape {
     match r.weighted(&[70, 24, 4, 2]) {
         0 => {
-            let kind = r.pick(&[0, 1, 1, 2, 2, 3, 3, 3, 3, 3, 4, 4, 5, 5, 6, 7]);
-            let size = [0, 1, 1, 8, 8, float_bytes, 0, 8][usize::from(kind)];
+            let kind = r.pick(&sizes.kinds());
+            let size = [0, 1, 1, 8, 8, sizes.float, 0, 8][usize::from(kind)];
             let width = u8::from(kind < 6 && !r.often(60));
             Shape { tag: 1, kind, width, size: if width == 0 { 0 } else { size } }
         }
@@ -111,9 +133,9 @@ pub fn shape(r: &mut Random, float_bytes: u32) -> Shape {
     }
 }
 /// A shape that bounds its body, for replies.
-fn bounded(r: &mut Random, float_bytes: u32) -> Shape {
+fn bounded(r: &mut Random, sizes: Sizes) -> Shape {
     loop {
-        let one = shape(r, float_bytes);
+        let one = shape(r, sizes);
         if mask_of(&one) & BODY == 0 || one.width == 2 || r.often(60) {
             return one;
         }
@@ -136,7 +158,7 @@ fn tag_of(shape: &Shape) -> u8 {
 fn chunk(r: &mut Random, number: usize, w: &World) -> Chunk {
     let entry = number == usize::from(w.d.header.entry);
     let params: Vec<Shape> = (0..r.weighted(&[35, 32, 18, 10, 5]))
-        .map(|k| if entry && k == 0 { bounded(r, w.float_bytes) } else { shape(r, w.float_bytes) })
+        .map(|k| if entry && k == 0 { bounded(r, w.sizes) } else { shape(r, w.sizes) })
         .collect();
     let mut tags: Vec<u8> = params.iter().map(|s| if r.often(150) { 0 } else { tag_of(s) }).collect();
     if r.often(8) {
@@ -159,7 +181,7 @@ fn chunk(r: &mut Random, number: usize, w: &World) -> Chunk {
         deepest: 0,
         param_count,
         tags,
-        signature: (!past).then(|| Signature { params, result: shape(r, w.float_bytes) }),
+        signature: (!past).then(|| Signature { params, result: shape(r, w.sizes) }),
         code: Vec::new(),
     }
 }
@@ -227,17 +249,18 @@ fn slots(r: &mut Random, w: &mut World) {
     }
 }
 
-pub fn world(r: &mut Random, chunks: usize, reckless: usize) -> World {
+pub fn world(r: &mut Random, handle: u8, chunks: usize, reckless: usize) -> World {
     let float_bits_log2 = r.pick(&[6, 6, 6, 6, 5, 5, 3, 0, 9, 31]);
     let mut w = World {
         d: Description::default(),
         reckless,
-        float_bytes: 1u32 << float_bits_log2 >> 3,
+        sizes: Sizes { float: 1u32 << float_bits_log2 >> 3, handle: u32::from(handle) },
         slots: Vec::new(),
         placed: Vec::new(),
         dialogue: None,
     };
     w.d.header.float_bits_log2 = float_bits_log2;
+    w.d.header.handle = handle;
     w.d.header.owns_bodies = r.below(2) as u8;
     w.d.header.chunks = chunks as u16;
     w.d.header.signatures = if r.often(30) { r.between(1, chunks) } else { chunks } as u16;
@@ -245,14 +268,14 @@ pub fn world(r: &mut Random, chunks: usize, reckless: usize) -> World {
         w.d.header.entry = r.below(usize::from(w.d.header.signatures)) as u16;
     }
     if r.often(520) {
-        w.dialogue = Some(bounded(r, w.float_bytes));
+        w.dialogue = Some(bounded(r, w.sizes));
     }
     if r.often(500) {
         slots(r, &mut w);
     }
     if r.often(400) {
         for _ in 0..r.between(1, 4) {
-            let native = Native { shape: shape(r, w.float_bytes), snapshot: r.below(2) as u8 };
+            let native = Native { shape: shape(r, w.sizes), snapshot: r.below(2) as u8 };
             w.d.natives.push(native);
         }
     }
@@ -266,7 +289,7 @@ pub fn world(r: &mut Random, chunks: usize, reckless: usize) -> World {
 /// A site; its reply is mostly the world's.
 pub fn site(r: &mut Random, w: &World, reply: Shape) -> Site {
     Site {
-        yielded: shape(r, w.float_bytes),
-        reply: if r.often(150) { bounded(r, w.float_bytes) } else { reply },
+        yielded: shape(r, w.sizes),
+        reply: if r.often(150) { bounded(r, w.sizes) } else { reply },
     }
 }

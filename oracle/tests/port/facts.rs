@@ -1,7 +1,7 @@
 //! A port that asks the oracle. The variable WRONG makes it wrong in one way,
 //! to see that the comparison notices.
 
-use oracle::model::{at16, split_field};
+use oracle::model::{Description, SHORT_HANDLE, USUAL_HANDLE, at16, split_field};
 use oracle::report::GUARDS_AT;
 
 pub struct Refusal {
@@ -31,7 +31,20 @@ fn turn_guards(report: &mut [u8]) {
     }
 }
 
+/// The description with handles of eight bytes where it has four.
+fn with_usual_handles(bytes: &[u8]) -> Vec<u8> {
+    match Description::decode(bytes) {
+        Some(mut d) if d.header.handle == SHORT_HANDLE => {
+            d.header.handle = USUAL_HANDLE;
+            d.encode()
+        }
+        _ => bytes.to_vec(),
+    }
+}
+
 pub fn check(description: &[u8], workspace: &mut [u32], report: &mut [u8], limit: u32) -> Answer {
+    let usual = wrong("handle of eight").then(|| with_usual_handles(description));
+    let description = usual.as_deref().unwrap_or(description);
     match oracle::run::check(description, workspace.len() as u64, report.len(), limit) {
         oracle::run::Outcome::Accepted { report: bytes, steps } => {
             let length = bytes.len();

@@ -4,6 +4,9 @@ use borrow.Author.Needs.{needs}
 use Rattle.form_rules.proofs.header_fault.Statement.{statement}
 use Rattle.form_rules.proofs.header_fault.Tie as tie
 
+handle-fine-requires : tie.Need-handle-fine-requires
+handle-fine-requires c κs = search needs
+
 low-requires : tie.Need-low-requires
 low-requires c κs = search needs
 
@@ -12,4 +15,4 @@ unfolding headerFault
 returns c = cc
 
 pub header-fault-spec : {M : Type 1} → statement M
-header-fault-spec = tie.close (tie.spec low-requires returns)
+header-fault-spec = tie.close (tie.spec handle-fine-requires low-requires returns)

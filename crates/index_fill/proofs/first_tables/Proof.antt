@@ -26,10 +26,13 @@ cast-t8 c = search needs
 shl-t9 : tie.Need-shl-t9
 shl-t9 c = omega (arith, float-fits _ _ _ (c .before .before .before .before .before .before .before .pre) (c .before .before .before .before .before .header-at .ensures))
 
+cast-t11 : tie.Need-cast-t11
+cast-t11 c = search needs
+
 returns : tie.Need-returns
 unfolding firstTables
-returns c = rw (shifted _ (float-fits _ _ _ (c .before .before .before .before .before .before .before .before .before .pre) (c .before .before .before .before .before .before .before .header-at .ensures)), c .before .before .before .before .before .before .before .header-at .ensures)
+returns c = rw (shifted _ (float-fits _ _ _ (c .before .before .before .before .before .before .before .before .before .before .pre) (c .before .before .before .before .before .before .before .before .header-at .ensures)), c .before .before .before .before .before .before .before .before .header-at .ensures)
 
 pub first-tables-spec : {M : Type 1} → statement M
 first-tables-spec =
-    tie.close (tie.spec header-at-requires cast-t4 cast-t5 cast-t6 cast-t7 cast-t8 shl-t9 returns)
+    tie.close (tie.spec header-at-requires cast-t4 cast-t5 cast-t6 cast-t7 cast-t8 shl-t9 cast-t11 returns)

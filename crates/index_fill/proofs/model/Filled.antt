@@ -229,6 +229,7 @@ module _ (s ws : List ℕ) (q : ℕ) (g : Good s q) (room : q ≤ length ws) (ze
         entry = sym m i .entry;
         slots = sym m i .slots;
         float = sym m i .float;
+        handle = sym m i .handle;
         owns = sym m i .owns;
         layout = sym m i .layout;
         «natives_at» = getD (sym (natives-are s q g) i) 0 0;

@@ -15,7 +15,7 @@ use Rattle.layout.specs.Indexed.{tablesOf}
 use Rattle.visit.specs.declared.RowVisit.{RowVisit}
 use Rattle.visit.specs.Held.{Looking, argsIn, factsIn, knownIn, visitIn}
 use Rattle.visit.proofs.Visits.{args-are}
-use Rattle.layout.proofs.Read.{float-is}
+use Rattle.layout.proofs.Read.{float-is, handle-is}
 
 module _ (s ws : List ℕ) (v : RowVisit) where
   pub code-is : visitIn s ws v .code ≡ moduleOf s
@@ -39,9 +39,10 @@ module _ (s ws : List ℕ) (v : RowVisit) where
     operand-is k = sym (ap (λ (l : List Cell). getD l k noCell) (args-are s ws v x))
 
     pub constructed-is : (t : Tables) → t ≡ tablesOf s
-        → constructed (packedExtent (argsIn ws v) (t .float) 8) (v .ins .b % 256) (v .ins .c) ≡ constructedExtent (visitIn s ws v)
+        → constructed (packedExtent (argsIn ws v) (t .float) (t .handle)) (v .ins .b % 256) (v .ins .c) ≡ constructedExtent (visitIn s ws v)
     unfolding constructedExtent
     constructed-is t e =
-        ap (λ (f : ℕ). constructed (packedExtent (argsIn ws v) f 8) (v .ins .b % 256) (v .ins .c)) (float-is s t e)
-        ∙ ap (λ (i : Instr). constructed (packedExtent (argsIn ws v) (moduleOf s .float) 8) (i .b % 256) (i .c)) ins-is
+        ap (λ (f : ℕ). constructed (packedExtent (argsIn ws v) f (t .handle)) (v .ins .b % 256) (v .ins .c)) (float-is s t e)
+        ∙ ap (λ (h : ℕ). constructed (packedExtent (argsIn ws v) (moduleOf s .float) h) (v .ins .b % 256) (v .ins .c)) (handle-is s t e)
+        ∙ ap (λ (i : Instr). constructed (packedExtent (argsIn ws v) (moduleOf s .float) (moduleOf s .handle)) (i .b % 256) (i .c)) ins-is
         ∙ rw (args-are s ws v x, code-is) refl

@@ -43,13 +43,13 @@ unfolding commonKinds
 common-end ws v p m h = sym (ap (commonKinds m) (rest-end ws v p h))
 
 -- ---- the packed size
-pub packed-all : (ws : List ℕ) (v : RowVisit) (float : ℕ) → packedFrom (Bytes 0 0) (restIn ws v (v .start)) float 8 ≡ packedExtent (argsIn ws v) float 8
+pub packed-all : (ws : List ℕ) (v : RowVisit) (float handle : ℕ) → packedFrom (Bytes 0 0) (restIn ws v (v .start)) float handle ≡ packedExtent (argsIn ws v) float handle
 unfolding packedExtent
-packed-all ws v float = ap (λ (l : List Cell). packedFrom (Bytes 0 0) l float 8) (rest-all ws v)
+packed-all ws v float handle = ap (λ (l : List Cell). packedFrom (Bytes 0 0) l float handle) (rest-all ws v)
 
-pub packed-turn : (ws : List ℕ) (v : RowVisit) (float p : ℕ) (sum : Packed) → p < v .height
-    → packedFrom (andThen sum (packedOne (cellAt ws (placeAt (v .row) p)) float 8)) (restIn ws v (p + 1)) float 8 ≡ packedFrom sum (restIn ws v p) float 8
-packed-turn ws v float p sum h = sym (ap (λ (l : List Cell). packedFrom sum l float 8) (rest-turn ws v p h))
+pub packed-turn : (ws : List ℕ) (v : RowVisit) (float handle p : ℕ) (sum : Packed) → p < v .height
+    → packedFrom (andThen sum (packedOne (cellAt ws (placeAt (v .row) p)) float handle)) (restIn ws v (p + 1)) float handle ≡ packedFrom sum (restIn ws v p) float handle
+packed-turn ws v float handle p sum h = sym (ap (λ (l : List Cell). packedFrom sum l float handle) (rest-turn ws v p h))
 
-pub packed-end : (ws : List ℕ) (v : RowVisit) (float p : ℕ) (sum : Packed) → v .height ≤ p → sum ≡ packedFrom sum (restIn ws v p) float 8
-packed-end ws v float p sum h = sym (ap (λ (l : List Cell). packedFrom sum l float 8) (rest-end ws v p h))
+pub packed-end : (ws : List ℕ) (v : RowVisit) (float handle p : ℕ) (sum : Packed) → v .height ≤ p → sum ≡ packedFrom sum (restIn ws v p) float handle
+packed-end ws v float handle p sum h = sym (ap (λ (l : List Cell). packedFrom sum l float handle) (rest-end ws v p h))

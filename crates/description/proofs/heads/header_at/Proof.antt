@@ -46,6 +46,12 @@ add-u8-at-3 c = omega arith
 u8-at-requires-3 : tie.Need-u8-at-requires-3
 u8-at-requires-3 c κs = tt
 
+add-u8-at-4 : tie.Need-add-u8-at-4
+add-u8-at-4 c = omega arith
+
+u8-at-requires-4 : tie.Need-u8-at-requires-4
+u8-at-requires-4 c κs = tt
+
 returns : tie.Need-returns
 unfolding headerOf
 returns c = cc
@@ -68,4 +74,6 @@ header-at-spec =
     u16-at-requires-4
     add-u8-at-3
     u8-at-requires-3
+    add-u8-at-4
+    u8-at-requires-4
     returns)

@@ -4,12 +4,15 @@ use mathlib.Core.Path.{_∙_}
 use Rattle.definition.specs.Module.{moduleOf}
 use Rattle.layout.proofs.Read.{shared-are}
 use Rattle.slots.proofs.Faults.{crossed-all, crossed-not}
+use native.Mathlib.Omega.{arith}
 use borrow.Author.Needs.{needs}
 use Rattle.slots.proofs.crossing.crosses.Statement.{statement}
 use Rattle.slots.proofs.crossing.crosses.Tie as tie
 
 slot-placed-requires : tie.Need-slot-placed-requires
-slot-placed-requires c κs = search needs
+slot-placed-requires c κs =
+    let p = c .before .before .before .before .pre in
+    (p .0, (p .1 .0, omega (arith, p .1 .1)))
 
 any-placed-requires : tie.Need-any-placed-requires
 any-placed-requires c κs = search needs
