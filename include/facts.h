@@ -5,8 +5,8 @@
  * may call it at the same time, each with memory of its own.
  *
  * A pointer must not be null, also where its length is 0, and must be aligned
- * for its type. What is written (workspace, report, answer, words, part) must
- * overlap nothing else of the same call.
+ * for its type. What is written (workspace, report, index, answer, words,
+ * part) must overlap nothing else of the same call.
  */
 #ifndef FACTS_H
 #define FACTS_H
@@ -44,6 +44,10 @@ extern "C" {
  *   16  no discriminant
  *   17  mixed receiver
  *   18  unequal stack heights meeting, or a height above D
+ * The host, who lends the index buffer and keeps report and index together:
+ *   19  index buffer too short: FACTS_ENTRY bytes for each record are enough,
+ *       and so is the length of the report buffer
+ *   20  index and report disagree; only facts_lookup_indexed answers it
  */
 
 /* The chunk or the instruction of a refusal that names none. */
@@ -58,6 +62,22 @@ enum {
     FACTS_LENGTH,      /* the report's length in bytes; 0 in a refusal */
     FACTS_ANSWER       /* how many numbers an answer has */
 };
+
+/* The answer of a call with an index has one number more. */
+enum {
+    /* the index's length in bytes; 0 in a refusal */
+    FACTS_INDEX_LENGTH = FACTS_ANSWER,
+    FACTS_INDEXED_ANSWER /* how many numbers it has */
+};
+
+/* The bytes of an entry of an index, in this order, least byte first:
+ *
+ *    chunk        2  the chunk of a record
+ *    instruction  2  its instruction
+ *    first        4  the place of the record's first byte, its tag
+ *    length       4  the record's length in bytes, tag and length included
+ */
+#define FACTS_ENTRY 12
 
 /* Analyses a description. Returns 0 and leaves the report in the first bytes
  * of its buffer, or returns the refusal's number and leaves the buffer as it
@@ -95,6 +115,44 @@ uint32_t facts_words(const uint8_t *description, size_t description_bytes,
  */
 uint32_t facts_lookup(const uint8_t *report, size_t report_bytes,
                       uint16_t chunk, uint16_t instruction, uint64_t part[2]);
+
+/* Analyses a description as facts_check does, and leaves an index of the
+ * report in the first bytes of a second buffer: an entry for each record,
+ * rising by chunk, then instruction. Returns 0, or what facts_check returns
+ * where it refuses, or 19 where the index buffer is too short; 19 comes after
+ * all else, 6 too, has the steps of the whole run, and names neither chunk nor
+ * instruction. A refusal leaves both buffers as they were. The bytes past the
+ * index stay as they were.
+ *
+ * An index has FACTS_ENTRY bytes for each record. A record has 15 or more, so
+ * an index buffer as long as the report buffer is always enough.
+ *
+ * description, workspace, report, limit
+ *              as for facts_check; the workspace is zeros after 19
+ * index        the buffer for the index
+ * answer       six numbers, all written on every call
+ */
+uint32_t facts_check_indexed(const uint8_t *description,
+                             size_t description_bytes,
+                             uint32_t *workspace, size_t workspace_words,
+                             uint8_t *report, size_t report_bytes,
+                             uint8_t *index, size_t index_bytes, uint32_t limit,
+                             uint32_t answer[FACTS_INDEXED_ANSWER]);
+
+/* The record of an instruction in a report, through its index. Returns what
+ * facts_lookup returns, with the same part; or 20 where report and index
+ * disagree: part[0] is report_bytes and part[1] is 0. Both may be any bytes,
+ * and are only read.
+ *
+ * They disagree where bytes of the index are left over, or its entries don't
+ * rise strictly by chunk, then instruction, or aren't, one for one, those of
+ * all records of the report. The index that an accepted call writes never
+ * disagrees with its report.
+ */
+uint32_t facts_lookup_indexed(const uint8_t *report, size_t report_bytes,
+                              const uint8_t *index, size_t index_bytes,
+                              uint16_t chunk, uint16_t instruction,
+                              uint64_t part[2]);
 
 #ifdef __cplusplus
 }

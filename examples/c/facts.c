@@ -1,5 +1,5 @@
-/* facts FILE: the facts of a description, the record of one instruction, and
- * a refusal. All memory is the program's own. */
+/* facts FILE: the facts of a description, the record of one instruction, also
+ * through an index, and two refusals. All memory is the program's own. */
 #include "facts.h"
 
 #include <stdio.h>
@@ -71,6 +71,27 @@ static void print_record(const uint8_t *report, size_t length, uint16_t chunk, u
         printf("record of %u %u: none\n", chunk, instruction);
 }
 
+/* The part that a lookup through an index answers, or its refusal. */
+static void print_sought(const char *through, const uint8_t *report, size_t length, const uint8_t *index,
+                         size_t index_length, uint16_t chunk, uint16_t instruction) {
+    uint64_t part[2];
+    uint32_t number = facts_lookup_indexed(report, length, index, index_length, chunk, instruction, part);
+    printf("through %s, record of %u %u: ", through, chunk, instruction);
+    if (number == 1)
+        printf("%u bytes from byte %u\n", (unsigned)part[1], (unsigned)part[0]);
+    else if (number == 0)
+        printf("none\n");
+    else
+        printf("refused %u\n", (unsigned)number);
+}
+
+static void print_index(const uint8_t *index, size_t length) {
+    printf("index of %u bytes\n", (unsigned)length);
+    for (size_t at = 0; at < length; at += FACTS_ENTRY)
+        printf("entry %u %u: %lu bytes from byte %lu\n", u16_at(index + at), u16_at(index + at + 2),
+               u32_at(index + at + 8), u32_at(index + at + 4));
+}
+
 static void print_refusal(const uint32_t *answer) {
     printf("refused %u, chunk %u, instruction %u, %u steps\n", (unsigned)answer[FACTS_NUMBER],
            (unsigned)answer[FACTS_CHUNK], (unsigned)answer[FACTS_INSTRUCTION], (unsigned)answer[FACTS_STEPS]);
@@ -81,6 +102,23 @@ static void print_accepted(const uint32_t *answer, const uint8_t *report) {
     print_report(report, answer[FACTS_LENGTH]);
     print_record(report, answer[FACTS_LENGTH], 0, 2);
     print_record(report, answer[FACTS_LENGTH], 0, 9);
+}
+
+/* Analyses the description once more, with an index, and looks records up through it. */
+static void analyse_indexed(const uint8_t *description, size_t length, uint32_t *workspace, size_t words,
+                            uint8_t *report) {
+    uint32_t answer[FACTS_INDEXED_ANSWER];
+    uint8_t *index = lend(REPORT, 1);
+    if (facts_check_indexed(description, length, workspace, words, report, REPORT, index, REPORT, LIMIT, answer) == 0) {
+        size_t report_length = answer[FACTS_LENGTH], index_length = answer[FACTS_INDEX_LENGTH];
+        print_index(index, index_length);
+        print_sought("the index", report, report_length, index, index_length, 0, 2);
+        print_sought("the index", report, report_length, index, index_length, 0, 9);
+        /* An index that isn't the report's own is refused for every record: its first entry names another byte. */
+        index[4] ^= 1;
+        print_sought("a damaged index", report, report_length, index, index_length, 0, 2);
+    }
+    free(index);
 }
 
 /* Analyses the description, and prints what comes of it. Returns the status to end with. */
@@ -100,6 +138,7 @@ static int analyse(const uint8_t *description, size_t length, uint8_t *report) {
     number = facts_check(description, length, workspace, words, report, REPORT, LIMIT, answer);
     if (number == 0) {
         print_accepted(answer, report);
+        analyse_indexed(description, length, workspace, words, report);
         /* One step too few is refused. */
         uint32_t few = answer[FACTS_STEPS] - 1;
         facts_check(description, length, workspace, words, report, REPORT, few, answer);

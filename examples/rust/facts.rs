@@ -1,6 +1,7 @@
 //! `facts FILE`: the facts of a description, the record of one instruction,
-//! and a refusal. All memory is the program's own.
+//! also through an index, and two refusals. All memory is the program's own.
 
+use genduvo::{Index, Refusal};
 use std::process::exit;
 
 const REPORT: usize = 1 << 20;
@@ -51,6 +52,32 @@ fn print_record(report: &[u8], chunk: u16, instruction: u16) {
     }
 }
 
+fn print_sought(through: &str, index: Index, report: &[u8], chunk: u16, instruction: u16) {
+    let sought = match index.lookup(report, chunk, instruction) {
+        Ok([]) => "none".into(),
+        Ok(part) => format!("{} bytes from byte {}", part.len(), part.as_ptr() as usize - report.as_ptr() as usize),
+        Err(reason) => format!("refused {reason}"),
+    };
+    println!("through {through}, record of {chunk} {instruction}: {sought}");
+}
+
+/// Analyses the description once more, with an index, and looks records up through it.
+fn print_indexed(description: &[u8], workspace: &mut [u32], report: &mut [u8]) -> Result<(), Refusal> {
+    let mut bytes = vec![0; REPORT];
+    let accepted = genduvo::check_indexed(description, workspace, report, &mut bytes, LIMIT)?;
+    let (report, bytes) = (&report[..accepted.length], &mut bytes[..accepted.index_length]);
+    println!("index of {} bytes", bytes.len());
+    for entry in Index::new(bytes).entries() {
+        println!("entry {} {}: {} bytes from byte {}", entry.chunk, entry.instruction, entry.length, entry.first);
+    }
+    print_sought("the index", Index::new(bytes), report, 0, 2);
+    print_sought("the index", Index::new(bytes), report, 0, 9);
+    // An index that isn't the report's own is refused for every record: its first entry names another byte.
+    bytes[4] ^= 1;
+    print_sought("a damaged index", Index::new(bytes), report, 0, 2);
+    Ok(())
+}
+
 fn main() -> Result<(), Box<dyn std::error::Error>> {
     let Some(path) = std::env::args().nth(1) else {
         eprintln!("facts FILE");
@@ -79,6 +106,7 @@ fn main() -> Result<(), Box<dyn std::error::Error>> {
     print_report(&report[..accepted.length]);
     print_record(&report[..accepted.length], 0, 2);
     print_record(&report[..accepted.length], 0, 9);
+    print_indexed(&description, &mut workspace, &mut report)?;
 
     // One step too few is refused.
     if let Err(refusal) = genduvo::check(&description, &mut workspace, &mut report, accepted.steps - 1) {

@@ -1,5 +1,5 @@
 //! The port and types.rs on the same descriptions, by the clock.
-//! `bench [ROUNDS] [SEED]`
+//! `bench [--index] [ROUNDS] [SEED]`
 //!
 //! The Rust's time is that of `check` on a module that is already built:
 //! neither the reading of the description nor its form, neither the copy of
@@ -14,9 +14,12 @@
 //! In each round the Rust, the port and the engine have their turn at one
 //! description; the best time of each is taken, and summed over a shape.
 //! With `cfg(linked)` the port is the static library, without the engine alone.
+//! With `--index` the port's call with an index is timed beside the one without,
+//! and the lookup of each record through the index beside the walk.
 
 #![allow(unexpected_cfgs)]
 
+mod index_times;
 #[cfg(parts)]
 mod parts;
 #[cfg(linked)]
@@ -60,7 +63,7 @@ fn case(bytes: Vec<u8>) -> Result<Case, String> {
         return Err(format!("not accepted: {}", trial::shown(&outcome)));
     };
     let (report, steps) = (report.len(), *steps);
-    let bounds = Bounds { words: words as usize, report_len: report, limit: LIMIT };
+    let bounds = Bounds { words: words as usize, report_len: report, index_len: 0, limit: LIMIT };
     if let Some(answer) = differs(&bytes, &bounds, &outcome, 1, &mut Buffers::default()) {
         return Err(format!("types.rs: {}, port: {answer}", trial::shown(&outcome)));
     }
@@ -156,17 +159,10 @@ fn show(name: &str, cases: &[Case], best: &Best) {
     println!("{:<16} taking      {}", "", shown(takings, 1));
 }
 
-fn main() {
-    let args: Vec<u64> = std::env::args().skip(1).map_while(|text| text.parse().ok()).collect();
-    if args.len() > 2 || args.len() != std::env::args().len() - 1 {
-        eprintln!("bench [ROUNDS] [SEED]");
-        exit(2);
-    }
-    let rounds = args.first().copied().unwrap_or(10).max(1);
-    let seed = args.get(1).copied().unwrap_or(1);
-    let mut groups = Vec::new();
-    println!("seed {seed}, {rounds} rounds");
+/// The cases of each shape, each line with their sums.
+fn made(seed: u64) -> Vec<(&'static str, Vec<Case>)> {
     println!("{:<16} {:>12} {:>12} {:>9} {:>9} {:>10}", "shape", "descriptions", "instructions", "takings", "words", "report");
+    let mut groups = Vec::new();
     for group in shapes::all(seed) {
         let mut cases = Vec::new();
         for bytes in group.descriptions {
@@ -185,8 +181,26 @@ fn main() {
         );
         groups.push((group.name, cases));
     }
+    groups
+}
+
+fn main() {
+    let index = std::env::args().nth(1).is_some_and(|text| text == "--index");
+    let told = 1 + usize::from(index);
+    let args: Vec<u64> = std::env::args().skip(told).map_while(|text| text.parse().ok()).collect();
+    if args.len() > 2 || args.len() != std::env::args().len() - told {
+        eprintln!("bench [--index] [ROUNDS] [SEED]");
+        exit(2);
+    }
+    let rounds = args.first().copied().unwrap_or(10).max(1);
+    let seed = args.get(1).copied().unwrap_or(1);
+    println!("seed {seed}, {rounds} rounds");
+    let groups = made(seed);
     println!("port and types.rs agree on all");
     println!();
+    if index {
+        return index_times::show(&groups, rounds);
+    }
     println!("{:<16} {:<11} {:>12} {:>12} {:>12} {:>9} {:>9}", "", "ns for a", "types.rs", "port", "engine", "Rust/port", "Rust/eng.");
     for (name, cases) in &groups {
         show(name, cases, &measure(cases, rounds));

@@ -3,10 +3,14 @@
 //! from the FROMth on, held against types.rs; or made with handles of four bytes
 //! and held against the copy of types.rs that packs them so. The variable
 //! THREADS says how many work at it.
+//! `compare --index COUNT [SEED]`: small reports with indexes, damaged, and COUNT
+//! of both at random, given to the lookup through an index (agreement.rs).
 //! With `cfg(linked)` the port is the static library; with `cfg(valgrind)` each
 //! buffer is an allocation of its own.
 #![allow(unexpected_cfgs)]
 
+mod agreement;
+mod indexed;
 #[cfg(linked)]
 #[path = "linked.rs"]
 mod port;
@@ -15,6 +19,7 @@ mod port;
 mod shrink;
 mod trial;
 
+use indexed::{index_differs, lookup_indexed_differs};
 use oracle::generate::coverage::Coverage;
 use oracle::generate::random::Random;
 use oracle::generate::{Generated, outcome, seed_of, with_handle};
@@ -43,6 +48,8 @@ struct Shared {
     run: u64,
     next: AtomicU64,
     compared: AtomicU64,
+    /// Accepted descriptions, called with an index too.
+    indexes: AtomicU64,
     differences: AtomicU64,
     output: Mutex<()>,
 }
@@ -63,28 +70,62 @@ impl Shared {
     }
 }
 
-fn main() {
-    let short = std::env::args().nth(1).is_some_and(|text| text == "--handle-4");
-    let told = 1 + usize::from(short);
+/// The numbers on the command line, behind a flag.
+fn numbers(flag: Option<&str>, most: usize) -> Vec<u64> {
+    let told = 1 + usize::from(flag.is_some());
     let args: Vec<u64> = std::env::args().skip(told).map_while(|text| text.parse().ok()).collect();
-    if args.is_empty() || args.len() > 3 || args.len() != std::env::args().len() - told {
-        eprintln!("compare [--handle-4] COUNT [SEED [FROM]]");
+    if args.is_empty() || args.len() > most || args.len() != std::env::args().len() - told {
+        eprintln!("compare [--handle-4] COUNT [SEED [FROM]]\ncompare --index COUNT [SEED]");
         exit(2);
     }
+    args
+}
+
+fn main() {
     trial::keep_panics();
+    let flag = std::env::args().nth(1).filter(|text| ["--handle-4", "--index"].contains(&text.as_str()));
+    if flag.as_deref() == Some("--index") {
+        let args = numbers(flag.as_deref(), 2);
+        return compare_lookups(args[0], args.get(1).copied().unwrap_or(1));
+    }
+    let args = numbers(flag.as_deref(), 3);
     let from = args.get(2).copied().unwrap_or(0);
-    let threads = std::env::var("THREADS").ok().and_then(|text| text.parse().ok()).unwrap_or(THREADS);
     let shared = Shared {
-        handle: if short { SHORT_HANDLE } else { USUAL_HANDLE },
+        handle: if flag.is_some() { SHORT_HANDLE } else { USUAL_HANDLE },
         end: from + args[0],
         run: args.get(1).copied().unwrap_or(1),
         next: AtomicU64::new(from),
         compared: AtomicU64::new(0),
+        indexes: AtomicU64::new(0),
         differences: AtomicU64::new(0),
         output: Mutex::new(()),
     };
-    let coverage = std::thread::scope(|scope| {
-        let threads: Vec<_> = (0..threads).map(|_| scope.spawn(|| work(&shared))).collect();
+    println!("{}", compare_all(&shared).table());
+    println!("{} indexes compared", shared.indexes.load(Ordering::Relaxed));
+    end(shared.compared.load(Ordering::Relaxed), shared.differences.load(Ordering::Relaxed))
+}
+
+/// The last line, and whether all is well.
+fn end(compared: u64, differences: u64) -> ! {
+    println!("{compared} compared, {differences} differences");
+    exit(i32::from(differences > 0));
+}
+
+/// The lookup through an index alone.
+fn compare_lookups(count: u64, seed: u64) {
+    let all = agreement::compare(count, seed);
+    for difference in &all.differences {
+        println!("---- {difference}");
+    }
+    println!("{} reports agree with the index given", all.agreeing);
+    end(all.compared, all.differences.len() as u64)
+}
+
+/// All descriptions of the run, by some threads.
+fn compare_all(shared: &Shared) -> Coverage {
+    let threads = std::env::var("THREADS").ok().and_then(|text| text.parse().ok()).unwrap_or(THREADS);
+    std::thread::scope(|scope| {
+        let threads: Vec<_> = (0..threads).map(|_| scope.spawn(|| work(shared))).collect();
         let mut all = Coverage::default();
         for thread in threads {
             match thread.join() {
@@ -96,11 +137,7 @@ fn main() {
             }
         }
         all
-    });
-    println!("{}", coverage.table());
-    let differences = shared.differences.load(Ordering::Relaxed);
-    println!("{} compared, {differences} differences", shared.compared.load(Ordering::Relaxed));
-    exit(i32::from(differences > 0));
+    })
 }
 
 fn work(shared: &Shared) -> Coverage {
@@ -128,6 +165,7 @@ fn work(shared: &Shared) -> Coverage {
         let found = compare(seed, &one, &expected, &mut buffers)
             .or_else(|| words_differ(&one.bytes, least.map(|words| words + 1).ok_or(expected.number())));
         shared.compared.fetch_add(1, Ordering::Relaxed);
+        shared.indexes.fetch_add(u64::from(expected.number() == 0), Ordering::Relaxed);
         if let Some(answer) = found {
             shared.difference(|| show(shared, seed, &one, &expected, &answer, &mut buffers));
         }
@@ -136,20 +174,30 @@ fn work(shared: &Shared) -> Coverage {
 }
 
 fn compare(seed: u64, one: &Generated, expected: &Outcome, buffers: &mut Buffers) -> Option<String> {
-    let bounds = Bounds { words: one.words as usize, report_len: one.report_len, limit: one.limit };
-    if let Some(answer) = differs(&one.bytes, &bounds, expected, seed as u32, buffers) {
+    let bounds = Bounds { words: one.words as usize, report_len: one.report_len, index_len: 0, limit: one.limit };
+    if let Some(answer) = both_differ(&one.bytes, &bounds, expected, seed as u32, buffers) {
         return Some(answer);
     }
     let mut r = Random::new(!seed);
     if let Outcome::Accepted { report, .. } = expected
         && r.often(300)
     {
-        lookup_differs(report, &mut r).or_else(|| lookup_differs(&odd_report(report, &mut r), &mut r))
+        lookups_differ(report, &mut r).or_else(|| lookups_differ(&odd_report(report, &mut r), &mut r))
     } else if r.often(100) {
-        lookup_differs(&odd_report(&[], &mut r), &mut r)
+        lookups_differ(&odd_report(&[], &mut r), &mut r)
     } else {
         None
     }
+}
+
+/// The call without an index and with one.
+fn both_differ(bytes: &[u8], bounds: &Bounds, expected: &Outcome, start: u32, b: &mut Buffers) -> Option<String> {
+    differs(bytes, bounds, expected, start, b).or_else(|| index_differs(bytes, bounds, expected, start, b))
+}
+
+/// The lookup by the walk and through an index.
+fn lookups_differ(report: &[u8], r: &mut Random) -> Option<String> {
+    lookup_differs(report, r).or_else(|| lookup_indexed_differs(report, r))
 }
 
 fn show(shared: &Shared, seed: u64, one: &Generated, expected: &Outcome, answer: &str, buffers: &mut Buffers) {
@@ -164,8 +212,8 @@ fn show(shared: &Shared, seed: u64, one: &Generated, expected: &Outcome, answer:
         let (words, report_len, limit) = (d.least_words() + 1000, 1 << 20, 20_000);
         let bytes = d.encode();
         let expected = run::check(&bytes, words, report_len, limit);
-        let bounds = Bounds { words: words as usize, report_len, limit };
-        differs(&bytes, &bounds, &expected, 1, buffers).map(|answer| (expected, answer))
+        let bounds = Bounds { words: words as usize, report_len, index_len: 0, limit };
+        both_differ(&bytes, &bounds, &expected, 1, buffers).map(|answer| (expected, answer))
     };
     let described = Description::decode(&one.bytes).filter(|d| d.least_words() < 4_000_000);
     match described {

@@ -24,6 +24,7 @@ mod probed;
 
 pub mod form;
 pub mod generate;
+pub mod index;
 pub mod judged;
 pub mod lookup;
 pub mod model;

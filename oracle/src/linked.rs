@@ -2,7 +2,7 @@
 //! functions of bindings/rust leave out of sight is held against the header
 //! here; a panic is a difference.
 
-use genduvo::{NOWHERE, raw};
+use genduvo::{Index, NOWHERE, Refusal, raw};
 
 pub enum Answer {
     Accepted { length: usize, steps: u32 },
@@ -19,12 +19,34 @@ pub fn check(description: &[u8], workspace: &mut [u32], report: &mut [u8], limit
         }
         Err(refusal) => {
             assert_eq!(answer[4], 0, "the length of a refusal");
-            Answer::Refused {
-                number: refusal.reason.number(),
-                chunk: refusal.chunk,
-                instruction: refusal.instruction,
-                steps: refusal.steps,
-            }
+            refused(refusal)
+        }
+    }
+}
+
+fn refused(refusal: Refusal) -> Answer {
+    let Refusal { reason, chunk, instruction, steps } = refusal;
+    Answer::Refused { number: reason.number(), chunk, instruction, steps }
+}
+
+/// The call with an index: its answer, and the index's length, 0 in a refusal.
+pub fn check_indexed(
+    description: &[u8],
+    workspace: &mut [u32],
+    report: &mut [u8],
+    index: &mut [u8],
+    limit: u32,
+) -> (Answer, usize) {
+    let (number, answer) = genduvo::indexed_numbers(description, workspace, report, index, limit);
+    assert_eq!(number, answer[0], "what facts_check_indexed returns");
+    match genduvo::indexed_outcome(answer) {
+        Ok(accepted) => {
+            assert_eq!(answer[1..3], [u32::from(NOWHERE); 2], "the place of an accepted call");
+            (Answer::Accepted { length: accepted.length, steps: accepted.steps }, accepted.index_length)
+        }
+        Err(refusal) => {
+            assert_eq!(answer[4..], [0; 2], "the lengths of a refusal");
+            (refused(refusal), 0)
         }
     }
 }
@@ -36,6 +58,34 @@ pub fn lookup(report: &[u8], chunk: u16, instruction: u16) -> &[u8] {
     let there = unsafe { raw::facts_lookup(report.as_ptr(), report.len(), chunk, instruction, &mut part) };
     assert_eq!(there, u32::from(!found.is_empty()), "what facts_lookup returns");
     found
+}
+
+/// The lookup through an index; None where the two disagree. Not timed.
+#[allow(dead_code)]
+pub fn lookup_indexed<'a>(report: &'a [u8], index: &[u8], chunk: u16, instruction: u16) -> Option<&'a [u8]> {
+    let sought = Index::new(index).lookup(report, chunk, instruction);
+    let mut part = [7; 2];
+    let ((bytes, size), (entries, room)) = ((report.as_ptr(), report.len()), (index.as_ptr(), index.len()));
+    // SAFETY: the slices are valid for the whole call, and `part` is borrowed for it alone.
+    let there = unsafe { raw::facts_lookup_indexed(bytes, size, entries, room, chunk, instruction, &mut part) };
+    match sought {
+        Ok(found) => assert_eq!(there, u32::from(!found.is_empty()), "what facts_lookup_indexed returns"),
+        Err(reason) => {
+            assert_eq!((there, reason.number()), (20, 20), "what facts_lookup_indexed returns");
+            assert_eq!(part, [report.len() as u64, 0], "the part of a disagreement");
+        }
+    }
+    sought.ok()
+}
+
+/// The lookups to be timed: those of bindings/rust, which hold nothing against the header.
+#[allow(unused_imports, dead_code)]
+pub mod plain {
+    pub use genduvo::lookup;
+
+    pub fn lookup_indexed<'a>(report: &'a [u8], index: &[u8], chunk: u16, instruction: u16) -> Option<&'a [u8]> {
+        genduvo::Index::new(index).lookup(report, chunk, instruction).ok()
+    }
 }
 
 /// The least workspace, or the refusal's number.

@@ -3,8 +3,9 @@
 
 use crate::port;
 use oracle::generate::random::Random;
+use oracle::index::{Entry, entries};
 use oracle::lookup::lookup;
-use oracle::model::{at16, split_field};
+use oracle::model::split_field;
 use oracle::run::{Outcome, Refusal};
 use std::cell::RefCell;
 use std::panic::{AssertUnwindSafe, catch_unwind};
@@ -18,7 +19,7 @@ pub fn keep_panics() {
 }
 
 /// Runs `work`; a panic is an error with its text.
-fn guarded<T>(work: impl FnOnce() -> T) -> Result<T, String> {
+pub fn guarded<T>(work: impl FnOnce() -> T) -> Result<T, String> {
     catch_unwind(AssertUnwindSafe(work)).map_err(|_| format!("panic: {}", PANIC.take()))
 }
 
@@ -28,22 +29,69 @@ fn guarded<T>(work: impl FnOnce() -> T) -> Result<T, String> {
 pub struct Buffers {
     workspace: Vec<u32>,
     report: Vec<u8>,
+    index: Vec<u8>,
 }
 
 impl Buffers {
-    fn prepare(&mut self, words: usize, length: usize, start: u32) {
+    fn prepare(&mut self, bounds: &Bounds, start: u32) {
+        let Bounds { words, report_len, index_len, .. } = *bounds;
         if cfg!(valgrind) {
             *self = Buffers::default();
             self.workspace.reserve_exact(words);
-            self.report.reserve_exact(length);
+            self.report.reserve_exact(report_len);
+            self.index.reserve_exact(index_len);
         }
         self.workspace.resize(words + BEHIND, 0);
-        self.report.resize(length + BEHIND, 0);
+        self.report.resize(report_len + BEHIND, 0);
+        self.index.resize(index_len + BEHIND, 0);
         self.workspace.iter_mut().enumerate().for_each(|(at, word)| *word = word_before(start, at));
         self.report.iter_mut().enumerate().for_each(|(at, byte)| *byte = byte_before(start, at));
+        self.index.iter_mut().enumerate().for_each(|(at, byte)| *byte = byte_before(start ^ OTHER, at));
+    }
+
+    /// What is lent of them: workspace, report buffer, index buffer.
+    fn lent(&mut self, bounds: &Bounds) -> (&mut [u32], &mut [u8], &mut [u8]) {
+        let Bounds { words, report_len, index_len, .. } = *bounds;
+        (&mut self.workspace[..words], &mut self.report[..report_len], &mut self.index[..index_len])
+    }
+
+    /// None where a call that came out so, with such an index, has left in them
+    /// what it should.
+    fn differ(&self, bounds: &Bounds, expected: &Outcome, index: &[u8], start: u32) -> Option<String> {
+        let report: &[u8] = match expected {
+            Outcome::Accepted { report, .. } => report,
+            Outcome::Refused(_) => &[],
+        };
+        if let Some((at, byte, wanted)) = wrong_byte(&self.report, report, start) {
+            let part = part_of("report", at, report.len(), bounds.report_len);
+            return Some(format!("byte {at} {part} is {byte}, not {wanted}: {}", field_at(report, at)));
+        }
+        if let Some((at, byte, wanted)) = wrong_byte(&self.index, index, start ^ OTHER) {
+            let part = part_of("index", at, index.len(), bounds.index_len);
+            return Some(format!("byte {at} {part} is {byte}, not {wanted}"));
+        }
+        let (at, word, wanted) = self.wrong_word(bounds.words, expected.number(), start)?;
+        let part = if at >= bounds.words { "behind" } else { "of" };
+        Some(format!("word {at} {part} the workspace is {word}, not {wanted}"))
+    }
+
+    /// The workspace: as before after 1 to 5, else zero; as before behind it.
+    /// Place, word and wanted word of the first that is not.
+    fn wrong_word(&self, words: usize, number: u8, start: u32) -> Option<(usize, u32, u32)> {
+        let cleared = if (1..=5).contains(&number) { 0 } else { words };
+        let clean = self.workspace[..cleared].iter().all(|word| *word == 0)
+            && self.workspace.iter().enumerate().skip(cleared).all(|(at, word)| *word == word_before(start, at));
+        if clean {
+            return None;
+        }
+        let wanted = |at: usize| if at < cleared { 0 } else { word_before(start, at) };
+        let all = self.workspace.iter().enumerate();
+        all.map(|(at, word)| (at, *word, wanted(at))).find(|(_, word, wanted)| word != wanted)
     }
 }
 const BEHIND: usize = if cfg!(valgrind) { 0 } else { 8 };
+/// What an index buffer begins with is other than what a report buffer does.
+const OTHER: u32 = 0x5a5a_5a5a;
 
 /// What a word or byte of a buffer is before the call; a word is never 0.
 fn word_before(start: u32, at: usize) -> u32 {
@@ -53,72 +101,84 @@ fn byte_before(start: u32, at: usize) -> u8 {
     (word_before(!start, at) >> 23) as u8
 }
 
+/// Place, byte and wanted byte of the first that is neither as written nor,
+/// past that, as before.
+fn wrong_byte(buffer: &[u8], written: &[u8], start: u32) -> Option<(usize, u8, u8)> {
+    let same = buffer.starts_with(written)
+        && buffer.iter().enumerate().skip(written.len()).all(|(at, byte)| *byte == byte_before(start, at));
+    if same {
+        return None;
+    }
+    let wanted = |at: usize| written.get(at).copied().unwrap_or(byte_before(start, at));
+    let all = buffer.iter().enumerate();
+    all.map(|(at, byte)| (at, *byte, wanted(at))).find(|(_, byte, wanted)| byte != wanted)
+}
+
+/// Where a byte of a buffer stands, of which so many are written and lent.
+fn part_of(name: &str, at: usize, written: usize, lent: usize) -> String {
+    if at >= lent {
+        format!("behind the {name} buffer")
+    } else if at >= written {
+        format!("past the {name}")
+    } else {
+        format!("of the {name}")
+    }
+}
+
 pub struct Bounds {
     pub words: usize,
     pub report_len: usize,
+    /// Of the call with an index; 0 of the other.
+    pub index_len: usize,
     pub limit: u32,
 }
 
 /// None where the port does as the oracle says; else what differs.
 pub fn differs(bytes: &[u8], bounds: &Bounds, expected: &Outcome, start: u32, b: &mut Buffers) -> Option<String> {
-    let (words, length) = (bounds.words, bounds.report_len);
     let own: Box<[u8]> = bytes.into();
-    let bytes = &own[..];
-    b.prepare(words, length, start);
-    let (workspace, report) = (&mut b.workspace[..words], &mut b.report[..length]);
-    let answer = match guarded(|| port::check(bytes, workspace, report, bounds.limit)) {
-        Ok(answer) => answer,
+    b.prepare(bounds, start);
+    let (workspace, report, _) = b.lent(bounds);
+    let answered = match guarded(|| port::check(&own, workspace, report, bounds.limit)) {
+        Ok(answer) => answer_shown(answer),
         Err(panic) => return Some(panic),
-    };
-
-    // The workspace: as before after 1 to 5, else zero; as before behind it.
-    let kept = if (1..=5).contains(&expected.number()) { 0 } else { words };
-    let wanted = |at: usize| if at < kept { 0 } else { word_before(start, at) };
-    let clean = b.workspace[..kept].iter().all(|word| *word == 0)
-        && b.workspace.iter().enumerate().skip(kept).all(|(at, word)| *word == word_before(start, at));
-    let wrong_word = if clean {
-        None
-    } else {
-        let all = b.workspace.iter().enumerate();
-        all.map(|(at, word)| (at, *word, wanted(at))).find(|(_, word, wanted)| word != wanted)
-    };
-    let written: &[u8] = match expected {
-        Outcome::Accepted { report, .. } => report,
-        Outcome::Refused(_) => &[],
-    };
-    let wanted = |at: usize| written.get(at).copied().unwrap_or(byte_before(start, at));
-    let same = b.report.starts_with(written)
-        && b.report.iter().enumerate().skip(written.len()).all(|(at, byte)| *byte == byte_before(start, at));
-    let wrong_byte = if same {
-        None
-    } else {
-        let all = b.report.iter().enumerate();
-        all.map(|(at, byte)| (at, *byte, wanted(at))).find(|(_, byte, wanted)| byte != wanted)
-    };
-    let answered = match answer {
-        port::Answer::Accepted { length, steps } => format!("accepted, length {length}, steps {steps}"),
-        port::Answer::Refused { number, chunk, instruction, steps } => {
-            shown(&Outcome::Refused(Refusal { number, chunk, instruction, steps }))
-        }
     };
     if answered != shown(expected) {
         return Some(answered);
     }
-    if let Some((at, byte, wanted)) = wrong_byte {
-        let part = if at >= length {
-            "behind the report buffer"
-        } else if at >= written.len() {
-            "past the report"
-        } else {
-            "of the report"
-        };
-        return Some(format!("{answered}, but byte {at} {part} is {byte}, not {wanted}: {}", field_at(written, at)));
+    b.differ(bounds, expected, &[], start).map(|what| format!("{answered}, but {what}"))
+}
+
+/// The same of the call with an index, which has these bytes.
+pub fn differs_indexed(
+    bytes: &[u8],
+    bounds: &Bounds,
+    (expected, index): (&Outcome, &[u8]),
+    start: u32,
+    b: &mut Buffers,
+) -> Option<String> {
+    let own: Box<[u8]> = bytes.into();
+    b.prepare(bounds, start);
+    let (workspace, report, room) = b.lent(bounds);
+    let with = format!("with {} bytes for an index", room.len());
+    let (answer, length) = match guarded(|| port::check_indexed(&own, workspace, report, room, bounds.limit)) {
+        Ok(answer) => answer,
+        Err(panic) => return Some(format!("{with}: {panic}")),
+    };
+    let answered = format!("{with}: {}, index {length}", answer_shown(answer));
+    let wanted = format!("{with}: {}, index {}", shown(expected), index.len());
+    if answered != wanted {
+        return Some(format!("{answered}; not {wanted}"));
     }
-    if let Some((at, word, wanted)) = wrong_word {
-        let part = if at >= words { "behind" } else { "of" };
-        return Some(format!("{answered}, but word {at} {part} the workspace is {word}, not {wanted}"));
+    b.differ(bounds, expected, index, start).map(|what| format!("{answered}, but {what}"))
+}
+
+fn answer_shown(answer: port::Answer) -> String {
+    match answer {
+        port::Answer::Accepted { length, steps } => format!("accepted, length {length}, steps {steps}"),
+        port::Answer::Refused { number, chunk, instruction, steps } => {
+            shown(&Outcome::Refused(Refusal { number, chunk, instruction, steps }))
+        }
     }
-    None
 }
 
 pub fn shown(outcome: &Outcome) -> String {
@@ -155,25 +215,22 @@ pub fn words_differ(bytes: &[u8], expected: Result<u64, u8>) -> Option<String> {
     }
 }
 
+/// Chunk and instruction of a record, where there is one, or any.
+pub fn pair(of_record: bool, recorded: &[Entry], r: &mut Random) -> (u16, u16) {
+    if of_record && !recorded.is_empty() {
+        return r.pick(recorded).place();
+    }
+    let place = |r: &mut Random| r.pick(&[0, 0, 0, 1, 2, 3, 5, 8, 13, 30, 256, 65535]) as u16;
+    (place(r), place(r))
+}
+
 /// Looks some places up, in the bytes as they are.
 pub fn lookup_differs(report: &[u8], r: &mut Random) -> Option<String> {
     let own: Box<[u8]> = report.into();
     let report = &own[..];
-    let mut recorded = Vec::new();
-    let mut rest = report;
-    while let Some((tag, contents, after)) = split_field(rest) {
-        rest = after;
-        if tag == 19 && contents.len() >= 4 {
-            recorded.push((at16(contents, 0), at16(contents, 2)));
-        }
-    }
-    let place = |r: &mut Random| r.pick(&[0, 0, 0, 1, 2, 3, 5, 8, 13, 30, 256, 65535]) as u16;
+    let recorded = entries(report);
     for turn in 0..4 {
-        let (chunk, instruction) = if turn < 2 && !recorded.is_empty() {
-            r.pick(&recorded)
-        } else {
-            (place(r), place(r))
-        };
+        let (chunk, instruction) = pair(turn < 2, &recorded, r);
         let expected = lookup(report, chunk, instruction);
         let answer = match guarded(|| port::lookup(report, chunk, instruction)) {
             Ok(answer) => answer,

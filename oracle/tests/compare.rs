@@ -43,6 +43,22 @@ fn nothing_differs_from_itself() {
     assert_eq!(output.lines().last(), Some("3000 compared, 0 differences"));
     assert!(output.contains("| all | 3000 |\n| left out by intention | 0 |\n"));
     assert!(output.contains("| CallExternalNative | "));
+    let accepted = output.lines().find_map(|line| line.strip_prefix("| accepted | ")).expect("a count");
+    let accepted = accepted.trim_end_matches([' ', '|']);
+    assert!(accepted.len() > 2 && output.contains(&format!("\n{accepted} indexes compared\n")), "{accepted}");
+}
+
+/// The lookup through an index: many pairs agree, many disagree, and nothing differs.
+#[test]
+fn no_lookup_differs_from_itself() {
+    let (good, output) = driven(&["--index", "20000", "2"], "");
+    let lines: Vec<&str> = output.lines().collect();
+    let number = |line: &str| line.split(' ').next().and_then(|number| number.parse::<u64>().ok()).expect("a number");
+    let [agreeing, last] = lines[..] else { panic!("{output}") };
+    assert!(good && last.ends_with(" compared, 0 differences"), "{output}");
+    assert!(agreeing.ends_with(" reports agree with the index given"), "{agreeing}");
+    let (agreeing, compared) = (number(agreeing), number(last));
+    assert!(agreeing > 20_000 && compared - agreeing > 20_000, "{output}");
 }
 
 /// With short handles: nothing differs from itself, a port that packs eight bytes does.
@@ -67,6 +83,11 @@ fn every_fault_is_noticed() {
     let faults = [
         "last byte", "guards turned", "past the report", "word left", "panic", "length", "steps", "workspace cleared",
         "report touched", "number", "chunk", "instruction", "refusal's steps", "empty part", "record",
+        // Of the call with an index.
+        "contents", "without the head", "falling", "index touched", "19 before 6", "19's report", "19 for its length",
+        "19's index", "19's workspace", "19's steps", "past the index", "index's length", "steps with index",
+        // Of the lookup through one.
+        "left over", "any index", "20 for none",
     ];
     for fault in faults {
         let (good, output) = compared("20000", fault);
@@ -75,6 +96,21 @@ fn every_fault_is_noticed() {
         assert!(last.ends_with(" compared, 10 differences"), "{fault}: {last}");
         assert_eq!(output.lines().filter(|line| line.starts_with("---- seed ")).count(), 10, "{fault}");
         assert_eq!(output.contains("panic: "), fault == "panic", "{fault}");
+    }
+}
+
+#[test]
+fn every_fault_of_the_agreement_is_noticed() {
+    let faults = [
+        "left over", "any index", "20 for none", "20's steps", "equal places", "up to the place", "entry more",
+        "entry less", "without rising", "in the walk's order",
+    ];
+    for fault in faults {
+        let (good, output) = driven(&["--index", "20000", "2"], fault);
+        assert!(!good, "{fault}");
+        let last = output.lines().last().unwrap_or("");
+        assert!(last.ends_with(" compared, 10 differences"), "{fault}: {last}");
+        assert_eq!(output.lines().filter(|line| line.starts_with("---- lookup ")).count(), 10, "{fault}");
     }
 }
 

@@ -16,6 +16,16 @@ pub enum Answer {
     Refused(Refusal),
 }
 
+// Of a call with an index: the length of the index, too.
+pub enum IndexedAnswer {
+    Accepted {
+        length: usize,
+        steps: u32,
+        index: usize,
+    },
+    Refused(Refusal),
+}
+
 // A refusal that names neither chunk nor instruction.
 pub fn nowhere(number: u8, steps: u32) -> Refusal
     ensures { λ r. ⌜ r ≡ nowhere number steps ⌝ }

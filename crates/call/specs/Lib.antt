@@ -1,2 +1,4 @@
 pub mod Checked
+pub mod CheckedIndexed
 pub mod analyzing
+pub mod delivering

@@ -13,7 +13,7 @@ use Rattle.cells.specs.Cell.{unitCell, made, declared, joinCell, sameCell, inva
 use Rattle.packing.specs.Packing.{scalarSpan, packedOne, packedExtent, construction}
 use Rattle.description.specs.Fields.{tagAt, lenAt, nextAt, fieldsF, fieldsFrom, ofTag, shapeOf, headerOf, chunkOf, tagsAt, paramsAt, paramsOf, paramOf, resultOf, instrOf, hasSite as fields-hasSite, yieldedOf, replyOf}
 use Rattle.ops.specs.Ops.{rules, ruleOf}
-use Rattle.answers.specs.Answers.{inField, numbers}
+use Rattle.answers.specs.Answers.{inField, numbers, indexedNumbers}
 use Rattle.definition.specs.Machine.{push, putJoined, putAt, putIn, put as machine-put, puts, visitAt, visit, adds, enter, finish, endRound, ending, onward, settle, settled, onSeen, takes, next, entryDue, onNext, run, begun, check}
 use Rattle.definition.specs.Module.{row, siteOf, lineOf, codeAfter, signedParams, chunkFrom, chunksFrom, nativeOf, initOf, moduleFrom, moduleOf}
 use Rattle.definition.specs.State.{joinCells, sameCells, joinStates, sameStates, joinIf, join}
@@ -26,6 +26,7 @@ use Rattle.definition.specs.Start.{tagMask, agree, admission, admitted, declare
 use Rattle.definition.specs.Form.{fits, fitOf, headerFault, shapeFine, tagsFine, shapesFine, chunkLen, signatureFine, chunkFault, senseless, tooLarge, misplaced, unfitting, instrFault, siteFault, tableFault, headerStep, chunkStep, instrStep, siteStep, soFar, tableStep, fieldStep, parameters, lateFault, lateLook, afterLook, finished, onStep, scanFrom, formOf}
 use Rattle.definition.specs.Report.{guardBefore, guardsRise, signaturesFrom, slotCells, placed, recordFrom, recordOf, saysFalse, isTest, inspectionOf, branchOf, fromState, fromStates, fromChunks, reportOf, sizedBytes, widthBytes, rangeBytes, bodyBytes, ownedByte, originNumber, receiverNumber, whenByte, bodiesBytes, sourceBytes, cellBytes, cellsBytes, field, signatureBytes, slotBytes, outputsBytes, guardsBytes, countsBytes, recordBytes, inspectionBytes, branchBytes, each, reportBytes}
 use Rattle.definition.specs.Call.{runOf, onRan, admittedRun, onReply, known, onAdmitted, decided, onForm, decide, leftWords, turnedBack, delivered, outcomeOf, call}
+use Rattle.definition.specs.CallIndexed.{turnedBackWith, deliveredWith, indexOf, outcomeWith, callIndexed}
 
 -- what is decided, as numbers: 0, the steps and the report's bytes; or 1, number, chunk, instruction and steps
 unfoldable pub shown : Decided → List ℕ
@@ -34,5 +35,5 @@ shown (turned r) = 1 ∷ r .number ∷ r .chunk ∷ r .instruction ∷ r .steps 
 
 -- `unfolding computed` opens all that stands here
 unfoldable pub computed : List ℕ → ℕ → ℕ → List ℕ
-unfolding shown trailingZeros ones at8 at16 at32 le16 le32 wrote-put scalar body kind oneKind operandKind constant immediate scalarWidth shapeMask declaredWidth joinFlow sameFlow noFlow newFlow minimumOf maximumOf invalidated bare unitCell made declared joinCell sameCell invalidatedCell bareCell narrowEnum guardedWidth scalarSpan packedOne packedExtent construction tagAt lenAt nextAt fieldsF fieldsFrom ofTag shapeOf headerOf chunkOf tagsAt paramsAt paramsOf paramOf resultOf instrOf fields-hasSite yieldedOf replyOf rules ruleOf inField numbers push putJoined putAt putIn machine-put puts visitAt visit adds enter finish endRound ending onward settle settled onSeen takes next entryDue onNext run begun check row siteOf lineOf codeAfter signedParams chunkFrom chunksFrom nativeOf initOf moduleFrom moduleOf joinCells sameCells joinStates sameStates joinIf join slotCount slotsFrom member isBody anyBody crossed dataFault sharedMask slot dataWidth kindsIn widthIn flowIn wholeExtent privateCell fresh readSlots slotAllows noCell commonKinds bitsMask ifHas negation withPredicate withOrigin originAt constantCell fieldCell ownedIf nativeCell at replyShape outputs-replyCell constructedExtent compositeCell firstOutput inspection predicateOn tested statusMask secondOutput restOutput madeFrom outputs output setting require meet every same yieldedMask stored pairKinds declaredKinds returnedWant partWant wantBy declaredMask wantOf writeCheck atIndex operandCheck operandChecks checksBy checks isProven allProven guardOf guardsIn guards isUnknown unpacked unfit branch waysOf receiverOn narrowing isFrom narrowStack narrowed along forget setLocals outputList kept resetFirst isReset reset after onWay leavingBy leaving lineAt visitOf hopeless isReturn always givesBy gives visited leaves joinAt movedAt storedFlow withFlows writeFlow writeMask writeSlot writeSlots absorb unionMasks sameMasks opened closed moved tagMask agree admission admitted declaredParams initMask firstFacts overfull siteReply replyIn replies firstReply start-replyCell bounded replyMaximum isSite start-hasSite callsOne suspendMore suspendLoop suspends knownOf filled start last underEight inspectionFault stateFault inspected afterChunk fits fitOf headerFault shapeFine tagsFine shapesFine chunkLen signatureFine chunkFault senseless tooLarge misplaced unfitting instrFault siteFault tableFault headerStep chunkStep instrStep siteStep soFar tableStep fieldStep parameters lateFault lateLook afterLook finished onStep scanFrom formOf guardBefore guardsRise signaturesFrom slotCells placed recordFrom recordOf saysFalse isTest inspectionOf branchOf fromState fromStates fromChunks reportOf sizedBytes widthBytes rangeBytes bodyBytes ownedByte originNumber receiverNumber whenByte bodiesBytes sourceBytes cellBytes cellsBytes field signatureBytes slotBytes outputsBytes guardsBytes countsBytes recordBytes inspectionBytes branchBytes each reportBytes runOf onRan admittedRun onReply known onAdmitted decided onForm decide leftWords turnedBack delivered outcomeOf call
+unfolding shown trailingZeros ones at8 at16 at32 le16 le32 wrote-put scalar body kind oneKind operandKind constant immediate scalarWidth shapeMask declaredWidth joinFlow sameFlow noFlow newFlow minimumOf maximumOf invalidated bare unitCell made declared joinCell sameCell invalidatedCell bareCell narrowEnum guardedWidth scalarSpan packedOne packedExtent construction tagAt lenAt nextAt fieldsF fieldsFrom ofTag shapeOf headerOf chunkOf tagsAt paramsAt paramsOf paramOf resultOf instrOf fields-hasSite yieldedOf replyOf rules ruleOf inField numbers indexedNumbers push putJoined putAt putIn machine-put puts visitAt visit adds enter finish endRound ending onward settle settled onSeen takes next entryDue onNext run begun check row siteOf lineOf codeAfter signedParams chunkFrom chunksFrom nativeOf initOf moduleFrom moduleOf joinCells sameCells joinStates sameStates joinIf join slotCount slotsFrom member isBody anyBody crossed dataFault sharedMask slot dataWidth kindsIn widthIn flowIn wholeExtent privateCell fresh readSlots slotAllows noCell commonKinds bitsMask ifHas negation withPredicate withOrigin originAt constantCell fieldCell ownedIf nativeCell at replyShape outputs-replyCell constructedExtent compositeCell firstOutput inspection predicateOn tested statusMask secondOutput restOutput madeFrom outputs output setting require meet every same yieldedMask stored pairKinds declaredKinds returnedWant partWant wantBy declaredMask wantOf writeCheck atIndex operandCheck operandChecks checksBy checks isProven allProven guardOf guardsIn guards isUnknown unpacked unfit branch waysOf receiverOn narrowing isFrom narrowStack narrowed along forget setLocals outputList kept resetFirst isReset reset after onWay leavingBy leaving lineAt visitOf hopeless isReturn always givesBy gives visited leaves joinAt movedAt storedFlow withFlows writeFlow writeMask writeSlot writeSlots absorb unionMasks sameMasks opened closed moved tagMask agree admission admitted declaredParams initMask firstFacts overfull siteReply replyIn replies firstReply start-replyCell bounded replyMaximum isSite start-hasSite callsOne suspendMore suspendLoop suspends knownOf filled start last underEight inspectionFault stateFault inspected afterChunk fits fitOf headerFault shapeFine tagsFine shapesFine chunkLen signatureFine chunkFault senseless tooLarge misplaced unfitting instrFault siteFault tableFault headerStep chunkStep instrStep siteStep soFar tableStep fieldStep parameters lateFault lateLook afterLook finished onStep scanFrom formOf guardBefore guardsRise signaturesFrom slotCells placed recordFrom recordOf saysFalse isTest inspectionOf branchOf fromState fromStates fromChunks reportOf sizedBytes widthBytes rangeBytes bodyBytes ownedByte originNumber receiverNumber whenByte bodiesBytes sourceBytes cellBytes cellsBytes field signatureBytes slotBytes outputsBytes guardsBytes countsBytes recordBytes inspectionBytes branchBytes each reportBytes runOf onRan admittedRun onReply known onAdmitted decided onForm decide leftWords turnedBack delivered outcomeOf call turnedBackWith deliveredWith indexOf outcomeWith callIndexed
 computed s words limit = shown (decide s words limit)

@@ -12,3 +12,4 @@ pub mod Bounds
 pub mod Form
 pub mod Report
 pub mod Call
+pub mod CallIndexed

@@ -1,28 +1,38 @@
 -- What each case of an answer comes to.
 use Prim.Native.Nat.{ℕ, _+_, _<_}
 use native.Mathlib.Omega.{arith}
-use mathlib.Core.Path.{_≡_, refl, sym, _∙_}
+use mathlib.Core.Path.{_≡_, refl, sym, ap, _∙_}
+use mathlib.Core.Bool.{true, cond}
 use mathlib.Core.List.{List, [], _∷_}
-use borrow.Author.Tests.{ne-eqb}
-use lib.ListN.{take, getD}
+use lib.Dec.{eqb}
+use lib.ListN.{length, take, getD}
 use Rattle.answers.specs.declared.Refusal.{Refusal}
 use Rattle.answers.specs.declared.Answer.{Answer}
 use Rattle.answers.specs.declared.Answer.the-variants.{Accepted}
 use Rattle.answers.specs.declared.Answer.the-variants.{Refused as Turned}
-use Rattle.answers.specs.Answers.{numbers}
+use Rattle.answers.specs.declared.IndexedAnswer.{IndexedAnswer}
+use Rattle.answers.specs.declared.IndexedAnswer.the-variants.{Accepted as AcceptedWith, Refused as RefusedWith}
+use Rattle.answers.specs.Answers.{numbers, indexedNumbers}
 use Rattle.definition.specs.declared.Form.{Form}
 use Rattle.definition.specs.declared.Form.the-variants.{Fine, Refused}
 use Rattle.definition.specs.Form.{formOf}
 use Rattle.definition.specs.Module.{moduleOf}
 use Rattle.definition.specs.Call.{call}
+use Rattle.definition.specs.CallIndexed.{callIndexed}
 use Rattle.report_laws.specs.Read.{readReport}
 use Rattle.consistent.specs.Consistent.{Consistent}
 use Rattle.consistent.specs.OneReport.{OneReport}
 use Rattle.form_laws.proofs.Theorem.{good-form}
 use Rattle.lookup.specs.declared.Part.{Part}
+use Rattle.lookup.specs.Find.{atEnd}
+use Rattle.report_index.specs.declared.Sought.{Sought}
+use Rattle.report_index.specs.declared.Sought.the-variants.{Found, Disagrees}
+use Rattle.report_index.specs.Index.{agrees, sought, Answered}
 use Rattle.refusal_laws.proofs.Calls.{refused-numbers}
+use Rattle.refusal_laws.proofs.Indexed.{indexed-numbers}
 use Rattle.call.specs.Checked.{Checked}
-use Rattle.facts_c.specs.Called.{CallOf, formNumber, leastWords, WordsOf, PartOf}
+use Rattle.call.specs.CheckedIndexed.{CheckedIndexed}
+use Rattle.facts_c.specs.Called.{CallOf, IndexedCallOf, formNumber, leastWords, WordsOf, PartOf, soughtNumber, soughtPart, SoughtOf}
 
 pub in-accepted : (a : Answer) (length steps : ℕ) → a ≡ Accepted length steps
     → 0 ∷ (65535 ∷ (65535 ∷ (steps ∷ (length ∷ [])))) ≡ numbers a
@@ -70,8 +80,55 @@ words-fine f w e = rw e (record { number = refl; words = refl })
 pub words-small : (s : List ℕ) (w : ℕ) → formOf s ≡ Fine w → w < 4294967296
 words-small s w e = good-form s w e .small
 
-pub part-none : (r x : Part) → r ≡ x → r .size ≡ 0 → PartOf x 0 (r .first ∷ (r .size ∷ []))
-part-none r x e z = rw (← e) (record { there = rw z; part = refl })
+pub part-found : (p x : Part) (r : ℕ) (out : List ℕ) → p ≡ x → r ≡ cond (eqb (p .size) 0) 0 1 → out ≡ p .first ∷ (p .size ∷ []) → PartOf x r out
+part-found p x r out e n o = rw (← e) (record { there = n; part = o })
 
-pub part-some : (r x : Part) → r ≡ x → (r .size ≡ 0 → ⊥) → PartOf x 1 (r .first ∷ (r .size ∷ []))
-part-some r x e z = rw (← e) (record { there = rw (ne-eqb (r .size) 0 z); part = refl })
+-- ---- with an index
+pub in-accepted-with : (a : IndexedAnswer) (length steps index : ℕ) → a ≡ AcceptedWith length steps index
+    → 0 ∷ (65535 ∷ (65535 ∷ (steps ∷ (length ∷ (index ∷ []))))) ≡ indexedNumbers a
+unfolding indexedNumbers
+in-accepted-with a length steps index e = rw e
+
+pub in-refused-with : (a : IndexedAnswer) (r : Refusal) → a ≡ RefusedWith r
+    → r .number ∷ (r .chunk ∷ (r .instruction ∷ (r .steps ∷ (0 ∷ (0 ∷ []))))) ≡ indexedNumbers a
+unfolding indexedNumbers
+in-refused-with a r e = rw e
+
+-- lengths of 32 bits
+pub short-lengths : (a : IndexedAnswer) (length steps index : ℕ) → a ≡ AcceptedWith length steps index
+    → (getD (indexedNumbers a) 4 0 < 4294967296) × (getD (indexedNumbers a) 5 0 < 4294967296) → (length < 4294967296) × (index < 4294967296)
+unfolding indexedNumbers
+short-lengths a length steps index e h = rw e at h
+
+module _ (s ws buf idx : List ℕ) (limit : ℕ) where
+  accepted-with-by : (a : IndexedAnswer) (buf′ idx′ ws′ : List ℕ) → CheckedIndexed s ws buf idx limit a buf′ idx′ ws′ → getD (indexedNumbers a) 0 0 ≡ 0
+      → (long : ℕ) × (steps : ℕ) × (n : ℕ) × (callIndexed s ws buf idx limit .answer ≡ AcceptedWith long steps n)
+      × Consistent (moduleOf s) (readReport (take long buf′)) × OneReport s long steps (take long buf′)
+      × (agrees (take long buf′) (take n idx′) ≡ true)
+  unfolding indexedNumbers
+  accepted-with-by (AcceptedWith long steps n) buf′ idx′ ws′ k z =
+      (long, steps, n, sym (k .answer), k .consistent long steps n refl, k .one-report long steps n refl, k .own-index long steps n refl)
+  accepted-with-by (RefusedWith r) buf′ idx′ ws′ k z = absurd (omega (arith, indexed-numbers s ws buf idx limit r (sym (k .answer)) .0))
+
+  pub called-with : (a : IndexedAnswer) (r : ℕ) (out buf′ idx′ ws′ : List ℕ) → CheckedIndexed s ws buf idx limit a buf′ idx′ ws′ → out ≡ indexedNumbers a
+      → r ≡ getD out 0 0 → IndexedCallOf s ws buf idx limit r out buf′ idx′ ws′
+  called-with a r out buf′ idx′ ws′ k e n =
+      record {
+        answer = e ∙ k .said;
+        number = n;
+        report = k .report;
+        index = k .index;
+        workspace = k .workspace;
+        accepted = λ z. accepted-with-by a buf′ idx′ ws′ k (ap (λ (l : List ℕ). getD l 0 0) (sym e) ∙ sym n ∙ z);
+      }
+
+-- the lookup through an index
+module _ (s x : List ℕ) (c i : ℕ) (a : Sought) (h : Answered s x c i a) where
+  pub sought-refused : (f : Refusal) → a ≡ Disagrees f → SoughtOf s (sought s x c i) (f .number) (length s ∷ (0 ∷ []))
+  unfolding soughtNumber soughtPart atEnd
+  sought-refused f e = rw (← h .same, e) (record { number = refl; part = refl })
+
+  pub sought-found : (p : Part) (r : ℕ) (out : List ℕ) → a ≡ Found p → r ≡ cond (eqb (p .size) 0) 0 1 → out ≡ p .first ∷ (p .size ∷ [])
+      → SoughtOf s (sought s x c i) r out
+  unfolding soughtNumber soughtPart
+  sought-found p r out e n o = rw (← h .same, e) (record { number = n; part = o })

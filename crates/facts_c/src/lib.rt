@@ -1,16 +1,25 @@
-// The static library: the call, the least workspace and the lookup, for programs in C and Rust. A slice is two arguments, pointer and length.
+// The static library: the call, the least workspace and the lookup, the call and the lookup with an index, for programs in C and Rust. A slice is two arguments, pointer and length.
 use answers::Answer;
+use answers::IndexedAnswer;
 use definition::Form;
 use facts::check;
+use facts::check_indexed;
+use facts::lookup_indexed;
 use form::check_form;
+use lookup::Part;
 use lookup::part_of;
+use report_index::Sought;
 ghost use Prim.Native.Nat.{_<_};
 ghost use mathlib.Core.Path.{_≡_};
+ghost use mathlib.Core.Bool.{cond};
+ghost use mathlib.Core.List.{[], _∷_};
+ghost use lib.Dec.{eqb};
 ghost use lib.ListN.{getD};
-ghost use Rattle.answers.specs.Answers.{numbers};
+ghost use Rattle.answers.specs.Answers.{numbers, indexedNumbers};
 ghost use Rattle.definition.specs.Form.{formOf};
 ghost use Rattle.lookup.specs.Find.{found};
-ghost use Rattle.facts_c.specs.Called.{CallOf, WordsOf, PartOf};
+ghost use Rattle.report_index.specs.Index.{sought};
+ghost use Rattle.facts_c.specs.Called.{CallOf, IndexedCallOf, WordsOf, PartOf, SoughtOf};
 
 // An answer as five words.
 fn in_words(answer: Answer) -> [u32; 5]
@@ -77,6 +86,20 @@ pub extern "C" fn facts_words(description: &[u8], words: &mut [u64; 1]) -> u32
     }
 }
 
+// A part as two words, first byte and length.
+fn in_two_words(part: Part) -> [u64; 2]
+    ensures { λ r. ⌜ r ≡ part .first ∷ part .size ∷ [] ⌝ }
+{
+    [part.first as u64, part.size as u64]
+}
+
+// Whether there is a record: no record is empty.
+fn is_there(part: Part) -> u32
+    ensures { λ r. ⌜ r ≡ cond (eqb (part .size) 0) 0 1 ⌝ }
+{
+    if part.size == 0 { 0 } else { 1 }
+}
+
 // The part of a report that is an instruction's record, as first byte and length, and 1; or the empty part at the end, and 0.
 #[no_mangle]
 pub extern "C" fn facts_lookup(
@@ -88,9 +111,72 @@ pub extern "C" fn facts_lookup(
     ensures { λ r. ⌜ PartOf (found (now (report .entry)) chunk instruction) r (now (part .exit)) ⌝ }
 {
     let found = part_of(report, chunk, instruction);
-    *part = [found.first as u64, found.size as u64];
-    if found.size == 0 {
-        return 0;
+    *part = in_two_words(found);
+    is_there(found)
+}
+
+// An answer of a call with an index as six words.
+fn in_six_words(answer: IndexedAnswer) -> [u32; 6]
+    requires { ⌜ (getD (indexedNumbers answer) 4 0 < 4294967296) × (getD (indexedNumbers answer) 5 0 < 4294967296) ⌝ }
+    ensures { λ r. ⌜ r ≡ indexedNumbers answer ⌝ }
+{
+    match answer {
+        IndexedAnswer::Accepted {
+            length,
+            steps,
+            index,
+        } => [0, 65535, 65535, steps, length as u32, index as u32],
+        IndexedAnswer::Refused(refusal) => [
+            refusal.number as u32,
+            refusal.chunk as u32,
+            refusal.instruction as u32,
+            refusal.steps,
+            0,
+            0,
+        ],
     }
-    1
+}
+
+// The call with an index. 0 where it is accepted, else the refusal's number; `answer` has number, chunk, instruction, steps, the report's
+// length and the index's.
+#[no_mangle]
+pub extern "C" fn facts_check_indexed(
+    description: &[u8],
+    workspace: &mut [u32],
+    report: &mut [u8],
+    index: &mut [u8],
+    limit: u32,
+    answer: &mut [u32; 6],
+) -> u32
+    ensures { λ r. ⌜
+        IndexedCallOf (now (description .entry)) (now (workspace .entry)) (now (report .entry)) (now (index .entry)) limit r
+        (now (answer .exit)) (now (report .exit)) (now (index .exit)) (now (workspace .exit))
+        ⌝ }
+{
+    let words = in_six_words(check_indexed(description, workspace, report, index, limit));
+    *answer = words;
+    words[0]
+}
+
+// The lookup through an index: as `facts_lookup`, or the empty part at the end, and 20, where the two disagree.
+#[no_mangle]
+pub extern "C" fn facts_lookup_indexed(
+    report: &[u8],
+    index: &[u8],
+    chunk: u16,
+    instruction: u16,
+    part: &mut [u64; 2],
+) -> u32
+    ensures { λ r. ⌜ SoughtOf (now (report .entry)) (sought (now (report .entry)) (now (index .entry)) chunk instruction) r (now (part .exit)) ⌝ }
+{
+    match lookup_indexed(report, index, chunk, instruction) {
+        Sought::Disagrees(r) => {
+            *part = [report.len() as u64, 0];
+            r.number as u32
+        }
+        Sought::Found(found) => {
+            *part = in_two_words(found);
+            is_there(found)
+        }
+    }
 }

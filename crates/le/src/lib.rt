@@ -57,6 +57,27 @@ pub fn u32_at(s: &[u8], at: usize) -> u32
     a + 256 * b + 65536 * c + 16777216 * d
 }
 
+// The same where all the bytes are there: none is asked about.
+pub fn u16_inside(s: &[u8], at: usize) -> u16
+    requires { ⌜ at + 2 ≤ length (now s) ⌝ }
+    ensures { λ r. ⌜ r ≡ at16 (now (s .entry)) at ⌝ }
+{
+    let a = wide16(s[at]);
+    let b = wide16(s[at + 1]);
+    a + 256 * b
+}
+
+pub fn u32_inside(s: &[u8], at: usize) -> u32
+    requires { ⌜ at + 4 ≤ length (now s) ⌝ }
+    ensures { λ r. ⌜ r ≡ at32 (now (s .entry)) at ⌝ }
+{
+    let a = wide32(s[at]);
+    let b = wide32(s[at + 1]);
+    let c = wide32(s[at + 2]);
+    let d = wide32(s[at + 3]);
+    a + 256 * b + 65536 * c + 16777216 * d
+}
+
 // Each write answers the place after it.
 pub fn put8(buf: &mut [u8], at: usize, x: u8) -> usize
     requires { ⌜ at + 1 ≤ length (now buf) ⌝ }

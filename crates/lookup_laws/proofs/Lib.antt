@@ -1,5 +1,7 @@
 pub mod Named
 pub mod Rising
+pub mod Entries
 pub mod Shown
 pub mod Theorem
+pub mod Own
 pub mod Cases

@@ -1,15 +1,14 @@
 -- THEOREM. In the report of an accepted call a lookup finds the record of each recorded instruction, and nothing for any other.
 use Prim.Native.Nat.{ℕ}
-use mathlib.Core.Path.{_≡_, _∙_, ap}
+use mathlib.Core.Path.{_≡_}
 use mathlib.Core.List.{List, List·Memᴰ}
-use lib.ListN.{length, take, drop}
-use lib.Seq.{take-at}
+use lib.ListN.{length, take}
 use Rattle.answers.specs.declared.Answer.the-variants.{Accepted}
 use Rattle.definition.specs.Report.{Report, Record, recordBytes, reportBytes}
 use Rattle.definition.specs.Call.{reported, decide, call}
 use Rattle.report_laws.specs.Read.{readReport}
 use Rattle.report_laws.proofs.Reports.{decided-back}
-use Rattle.consistent.proofs.Accepted.{accepted-left}
+use Rattle.consistent.proofs.Accepted.{accepted-left, left-bytes}
 use Rattle.lookup.specs.Find.{atEnd, found}
 use Rattle.lookup_laws.proofs.Named.{Rising, named-listed, named-none}
 use Rattle.lookup_laws.proofs.Rising.{decided-rises}
@@ -40,6 +39,5 @@ pub accepted-looked : (s ws buf : List ℕ) (limit long steps : ℕ) → call s 
 accepted-looked s ws buf limit long steps h =
     let d = accepted-left s ws buf limit long steps h in
     let r : Report = d .report in
-    let e : take long (call s ws buf limit .report) ≡ reportBytes r =
-    ap (take long) (d .bytes) ∙ take-at (reportBytes r) (drop long buf) long (d .size) in
+    let e : take long (call s ws buf limit .report) ≡ reportBytes r = left-bytes _ _ buf long steps d in
     rw (e, decided-back s (length ws) limit steps r (d .decides)) (decided-looked s (length ws) limit steps r (d .decides))

@@ -5,3 +5,4 @@ pub mod Runs
 pub mod Rules
 pub mod Left
 pub mod Calls
+pub mod Indexed

@@ -87,7 +87,7 @@ module _ (s ws : List ℕ) where
             each-states f (g (chunkNo (moduleOf s) n)) (stateAt s n ws) 0 k ∙ ap (spread (added f g s ws n) 0) z
         go false = refl
 
-    chunks-added : each f (fromChunks g (moduleOf s .chunks) (pastIn s ws (length (moduleOf s .chunks))))
+    pub chunks-added : each f (fromChunks g (moduleOf s .chunks) (pastIn s ws (length (moduleOf s .chunks))))
         ≡ span (λ n. span (added f g s ws n) 0 (recordable s n)) 0 (length (moduleOf s .chunks))
     unfolding pastIn
     chunks-added =

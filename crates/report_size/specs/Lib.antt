@@ -4,3 +4,4 @@ pub mod Adds
 pub mod Here
 pub mod Measured
 pub mod recorded
+pub mod counting

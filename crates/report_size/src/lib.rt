@@ -1,9 +1,11 @@
-// The length of the report: what of a row is recorded, the sizes of its record, the number of a visit's guards.
+// The length of the report: what of a row is recorded, the sizes of its record, the number of a visit's guards; how many records there are.
+mod counting;
 mod recorded;
 
 use checks::check_place;
 use checks::places_asked;
 use checks::want_at;
+pub use counting::count_records;
 use definition::Want;
 use index::chunk_at;
 use layout::Chunk;

@@ -1,6 +1,7 @@
 //! A port that asks the oracle. The variable WRONG makes it wrong in one way,
 //! to see that the comparison notices.
 
+use oracle::index::{self, ENTRY, Entry};
 use oracle::model::{Description, SHORT_HANDLE, USUAL_HANDLE, at16, split_field};
 use oracle::report::GUARDS_AT;
 
@@ -13,6 +14,19 @@ pub struct Refusal {
 pub enum Answer {
     Accepted { length: usize, steps: u32 },
     Refused(Refusal),
+}
+
+pub enum IndexedAnswer {
+    Accepted { length: usize, steps: u32, index: usize },
+    Refused(Refusal),
+}
+pub struct Part {
+    pub first: usize,
+    pub size: usize,
+}
+pub enum Sought {
+    Found(Part),
+    Disagrees(Refusal),
 }
 
 fn wrong(how: &str) -> bool {
@@ -94,4 +108,114 @@ pub fn lookup(report: &[u8], chunk: u16, instruction: u16) -> &[u8] {
         return &part[3..];
     }
     part
+}
+
+/// The index of a report.
+fn index_of(report: &[u8]) -> Vec<u8> {
+    let mut entries = index::entries(report);
+    if wrong("contents") {
+        entries.iter_mut().for_each(|entry| entry.first += 3);
+    }
+    if wrong("without the head") {
+        entries.iter_mut().for_each(|entry| entry.length -= 3);
+    }
+    if wrong("falling") {
+        entries.reverse();
+    }
+    index::bytes(&entries)
+}
+
+pub fn check_indexed(
+    description: &[u8],
+    workspace: &mut [u32],
+    report: &mut [u8],
+    index: &mut [u8],
+    limit: u32,
+) -> IndexedAnswer {
+    match oracle::run::check(description, workspace.len() as u64, report.len(), limit) {
+        oracle::run::Outcome::Accepted { report: bytes, steps } => {
+            workspace.fill(0);
+            deliver(&bytes, steps, workspace, report, index)
+        }
+        oracle::run::Outcome::Refused(r) => {
+            if r.number > 5 {
+                workspace.fill(0);
+            }
+            if wrong("index touched") && !index.is_empty() {
+                index[0] ^= 1;
+            }
+            let number = if wrong("19 before 6") && r.number == 6 && index.is_empty() { 19 } else { r.number };
+            IndexedAnswer::Refused(Refusal { number, chunk: r.chunk, instruction: r.instruction, steps: r.steps })
+        }
+    }
+}
+
+/// Report and index into their buffers, or 19.
+fn deliver(bytes: &[u8], steps: u32, workspace: &mut [u32], report: &mut [u8], index: &mut [u8]) -> IndexedAnswer {
+    let own = index_of(bytes);
+    let short = own.len() > index.len();
+    if !short || wrong("19's report") {
+        report[..bytes.len()].copy_from_slice(bytes);
+    }
+    if short || wrong("19 for its length") && own.len() == index.len() {
+        if wrong("19's index") {
+            index.copy_from_slice(&own[..index.len()]);
+        }
+        if wrong("19's workspace") {
+            workspace[0] = 1;
+        }
+        let steps = if wrong("19's steps") { 0 } else { steps };
+        return IndexedAnswer::Refused(Refusal { number: 19, chunk: 65535, instruction: 65535, steps });
+    }
+    index[..own.len()].copy_from_slice(&own);
+    if wrong("past the index") && own.len() < index.len() {
+        index[own.len()] ^= 1;
+    }
+    let length = own.len() + ENTRY * usize::from(wrong("index's length"));
+    IndexedAnswer::Accepted { length: bytes.len(), steps: steps + u32::from(wrong("steps with index")), index: length }
+}
+
+/// Whether the entries rise, strictly.
+fn rise(entries: &[Entry]) -> bool {
+    let equal = wrong("equal places");
+    entries.windows(2).all(|two| two[0].place() < two[1].place() || equal && two[0].place() == two[1].place())
+}
+
+fn agrees(report: &[u8], index: &[u8], place: (u16, u16)) -> bool {
+    let left_over = if wrong("left over") { index.len() % ENTRY } else { 0 };
+    let Some(mut listed) = index::read(&index[..index.len() - left_over]) else { return false };
+    let mut recorded = index::entries(report);
+    if wrong("up to the place")
+        && let Some(found) = recorded.iter().position(|entry| entry.place() == place)
+    {
+        recorded.truncate(found + 1);
+        listed.truncate(found + 1);
+    }
+    if wrong("entry more") {
+        listed.retain(|entry| recorded.contains(entry));
+    }
+    if wrong("entry less") {
+        recorded.retain(|entry| listed.contains(entry));
+    }
+    if !wrong("without rising") && !rise(&listed) {
+        return false;
+    }
+    if !wrong("in the walk's order") {
+        recorded.sort();
+        listed.sort();
+    }
+    recorded == listed || wrong("any index")
+}
+
+pub fn lookup_indexed(report: &[u8], index: &[u8], chunk: u16, instruction: u16) -> Sought {
+    if !agrees(report, index, (chunk, instruction)) {
+        let steps = u32::from(wrong("20's steps"));
+        return Sought::Disagrees(Refusal { number: 20, chunk: 65535, instruction: 65535, steps });
+    }
+    let part = oracle::lookup::lookup(report, chunk, instruction);
+    if part.is_empty() && wrong("20 for none") {
+        return Sought::Disagrees(Refusal { number: 20, chunk: 65535, instruction: 65535, steps: 0 });
+    }
+    let first = part.as_ptr() as usize - report.as_ptr() as usize;
+    Sought::Found(Part { first, size: part.len() })
 }

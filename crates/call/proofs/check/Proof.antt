@@ -1,3 +1,4 @@
+-- `call::check` meets its contract.
 use native.Mathlib.Omega.{arith}
 use mathlib.Core.Path.{_≡_}
 use Rattle.definition.specs.declared.Form.the-variants.{Fine}
@@ -6,32 +7,21 @@ use Rattle.call.proofs.Laws.{good-room, checked-refused, checked-ran}
 use borrow.Author.Needs.{needs}
 use Rattle.call.proofs.check.Statement.{statement}
 use Rattle.call.proofs.check.Tie as tie
-use Rattle.call.proofs.check.Reads as reads
-use Rattle.call.proofs.check.Lts as lts
-use Rattle.words.proofs.clear.Reads as clear-reads
-use Rattle.call.proofs.analyzing.analyze.Reads as analyze-reads
-use Rattle.index_fill.proofs.fill.Reads as fill-reads
-use Rattle.form.proofs.check_room.Reads as check-room-reads
 
--- src/lib.rt:72:11
 check-room-requires : tie.Need-check-room-requires
 check-room-requires c κs = search needs
 
--- src/lib.rt:73:23
 enum-known-r : tie.Need-enum-known-r
 enum-known-r c = search needs
 
--- src/lib.rt:74:20
 enum-known-words : tie.Need-enum-known-words
 enum-known-words c = search needs
 
--- src/lib.rt:75:17
 fill-requires : tie.Need-fill-requires
 fill-requires c κs =
     let a : c .before .before .before .before .check-room .result ≡ Fine (c .before .before .words .given .0 .0) = cc in
     let g = good-room _ (c .before .before .before .before .before .before .before .before .args .workspace .now) _ _ (c .before .before .before .before .check-room .ensures) a in (g .0, omega (arith, g .1))
 
--- src/lib.rt:76:17
 analyze-requires : tie.Need-analyze-requires
 analyze-requires c κs =
     let a : c .before .before .before .before .before .before .before .before .before .check-room .result ≡ Fine (c .before .before .before .before .before .before .before .words .given .0 .0) = cc in
@@ -39,25 +29,20 @@ analyze-requires c κs =
     let f = c .before .before .before .before .fill .ensures in
     (f .1, (f .2, (omega (arith, g .2, f .3), f .0)))
 
--- src/lib.rt:77:13
 clear-requires : tie.Need-clear-requires
 clear-requires c κs = search needs
 
--- src/lib.rt:66:1
 returns : tie.Need-returns
 returns c =
     let a : c .before .before .before .check-room .result ≡ Malformed (c .before .r .given .0 .0) = cc in
     checked-refused _ _ _ _ _ _ (c .before .before .before .check-room .ensures) a
 
--- src/lib.rt:66:1
 same-length : tie.Need-same-length
 same-length c = search needs
 
--- src/lib.rt:66:1
 same-length-2 : tie.Need-same-length-2
 same-length-2 c = search needs
 
--- src/lib.rt:66:1
 returns-2 : tie.Need-returns-2
 returns-2 c =
     let a : c .before .before .before .before .before .before .before .before .before .before .before .before .before .before .before .before .before .before .check-room .result ≡ Fine (c .before .before .before .before .before .before .before .before .before .before .before .before .before .before .before .before .words .given .0 .0) = cc in

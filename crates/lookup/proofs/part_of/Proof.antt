@@ -4,7 +4,7 @@ use mathlib.Core.Path.{_≡_, refl, sym, _∙_}
 use lib.ListN.{length}
 use native.Mathlib.Omega.{arith}
 use borrow.Author.Needs.{needs}
-use Rattle.lookup.specs.Find.{atEnd, whole, found}
+use Rattle.lookup.specs.Find.{atEnd, entryAt, found}
 use Rattle.lookup.proofs.Turns.{foundFrom, from-start, ends, overruns, finds, passes}
 use Rattle.lookup.proofs.part_of.Statement.{statement}
 use Rattle.lookup.proofs.part_of.Tie as tie
@@ -38,7 +38,7 @@ sub-t9 : tie.Need-sub-t9 Inv-loop μ-loop
 sub-t9 c = search needs
 
 returns-2 : tie.Need-returns-2 Inv-loop μ-loop
-unfolding whole
+unfolding entryAt
 returns-2 c =
     let l = c .before .before .before .before .before .loop in
     let e = c .before .before .before .end-at .ensures .0 in

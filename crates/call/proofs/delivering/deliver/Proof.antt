@@ -1,37 +1,27 @@
+-- `call::delivering::deliver` meets its contract.
 use native.Mathlib.Omega.{arith}
-use Rattle.call.proofs.analyzing.Laws.{told-long, told-written}
+use Rattle.call.proofs.delivering.Laws.{told-long, told-written}
 use borrow.Author.Needs.{needs}
-use Rattle.call.proofs.analyzing.deliver.Statement.{statement}
-use Rattle.call.proofs.analyzing.deliver.Tie as tie
-use Rattle.call.proofs.analyzing.deliver.Reads as reads
-use Rattle.call.proofs.analyzing.deliver.Lts as lts
-use Rattle.answers.proofs.nowhere.Reads as nowhere-reads
-use Rattle.report_size.proofs.measure.Reads as measure-reads
-use Rattle.report_write.proofs.write.Reads as write-reads
+use Rattle.call.proofs.delivering.deliver.Statement.{statement}
+use Rattle.call.proofs.delivering.deliver.Tie as tie
 
--- src/analyzing.rt:36:9
 measure-requires : tie.Need-measure-requires
 measure-requires c κs = search needs
 
--- src/analyzing.rt:38:32
 nowhere-requires : tie.Need-nowhere-requires
 nowhere-requires c κs = search needs
 
--- src/analyzing.rt:38:9
 returns : tie.Need-returns
 returns c = rw (c .nowhere .ensures) (told-long _ _ _ _ (c .before .before .measure .ensures .0 (c .before .before .before .before .before .before .args .reply)) (c .before .if1 .taken))
 
--- src/analyzing.rt:40:5
 write-requires : tie.Need-write-requires
 write-requires c κs =
     let p = c .before .before .before .before .before .before .pre in
     (p .0, (p .1 .0, (p .1 .1, omega (arith, c .before .before .measure .ensures .0 (c .before .before .before .before .before .before .args .reply), c .before .if1 .left))))
 
--- src/analyzing.rt:30:1
 same-length : tie.Need-same-length
 same-length c = search needs
 
--- src/analyzing.rt:30:1
 returns-2 : tie.Need-returns-2
 returns-2 c =
     told-written _ _ _ _ _ (c .before .before .before .before .before .measure .ensures .0 (c .before .before .before .before .before .before .before .before .before .args .reply)) (c .before .before .before .before .before .measure .ensures .1) (omega (arith, c .before .before .before .before .if1 .left)) (c .before .before .write .ensures)

@@ -1,0 +1,5 @@
+pub mod Alike
+mod Cases
+pub mod Laid
+pub mod Match
+pub mod Wrote
