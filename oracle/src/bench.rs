@@ -55,7 +55,7 @@ struct Case {
 
 /// The description with what it needs, once port and types.rs agree on it.
 fn case(bytes: Vec<u8>) -> Result<Case, String> {
-    let built = Built::new(&bytes).ok_or("a description of bad form")?;
+    let built = Built::new(&bytes).ok_or("a description of bad form, or one that types.rs does not judge")?;
     let d = Description::decode(&bytes).ok_or("no description")?;
     let words = d.least_words() + QUEUE;
     let outcome = run::check(&bytes, words, usize::MAX, LIMIT);

@@ -1,7 +1,8 @@
 //! Generated descriptions, given to the oracle and to the port.
-//! `compare [--handle-4] COUNT [SEED [FROM]]`: COUNT of a seed's descriptions,
-//! from the FROMth on, held against types.rs; or made with handles of four bytes
-//! and held against the copy of types.rs that packs them so. The variable
+//! `compare [--handle-4] [--next-branch] COUNT [SEED [FROM]]`: COUNT of a seed's
+//! descriptions, from the FROMth on, held against types.rs; or made with handles
+//! of four bytes, with branches to the very next instruction or with both, and
+//! held against the copy of types.rs that judges them (judged.rs). The variable
 //! THREADS says how many work at it.
 //! `compare --index COUNT [SEED]`: small reports with indexes, damaged, and COUNT
 //! of both at random, given to the lookup through an index (agreement.rs).
@@ -22,9 +23,9 @@ mod trial;
 use indexed::{index_differs, lookup_indexed_differs};
 use oracle::generate::coverage::Coverage;
 use oracle::generate::random::Random;
-use oracle::generate::{Generated, outcome, seed_of, with_handle};
-use oracle::judged::judged;
-use oracle::model::{Description, SHORT_HANDLE, USUAL_HANDLE};
+use oracle::generate::{Generated, made_for, outcome, seed_of};
+use oracle::judged::{Text, text_of};
+use oracle::model::Description;
 use oracle::run::{self, Outcome};
 use oracle::text;
 use std::process::exit;
@@ -42,14 +43,16 @@ const THREADS: usize = 2;
 const MOST: u64 = 10;
 
 struct Shared {
-    /// The handles that are made; the rest of what is made is left out.
-    handle: u8,
+    /// What is made is held against this text; what another judges is left out.
+    text: Text,
     end: u64,
     run: u64,
     next: AtomicU64,
     compared: AtomicU64,
     /// Accepted descriptions, called with an index too.
     indexes: AtomicU64,
+    /// Those of a copy's that types.rs itself answers otherwise.
+    otherwise: AtomicU64,
     differences: AtomicU64,
     output: Mutex<()>,
 }
@@ -57,7 +60,13 @@ struct Shared {
 impl Shared {
     /// Whether the description is judged by the text that this run compares with.
     fn holds(&self, d: &Description) -> bool {
-        judged(d) == (self.handle == USUAL_HANDLE)
+        text_of(d) == self.text
+    }
+
+    /// Whether types.rs itself answers otherwise than the copy.
+    fn answered_otherwise(&self, one: &Generated, expected: &Outcome) -> bool {
+        let types = || run::check_by(Text::TYPES, &one.bytes, one.words, one.report_len, one.limit);
+        self.text != Text::TYPES && types() != *expected
     }
 
     /// Counts and shows a difference, one at a time and no more than `MOST`.
@@ -70,37 +79,41 @@ impl Shared {
     }
 }
 
-/// The numbers on the command line, behind a flag.
-fn numbers(flag: Option<&str>, most: usize) -> Vec<u64> {
-    let told = 1 + usize::from(flag.is_some());
-    let args: Vec<u64> = std::env::args().skip(told).map_while(|text| text.parse().ok()).collect();
-    if args.is_empty() || args.len() > most || args.len() != std::env::args().len() - told {
-        eprintln!("compare [--handle-4] COUNT [SEED [FROM]]\ncompare --index COUNT [SEED]");
+/// So many numbers at most, and at least one.
+fn numbers(args: &[String], most: usize) -> Vec<u64> {
+    let found: Vec<u64> = args.iter().map_while(|text| text.parse().ok()).collect();
+    if found.is_empty() || found.len() > most || found.len() != args.len() {
+        eprintln!("compare [--handle-4] [--next-branch] COUNT [SEED [FROM]]\ncompare --index COUNT [SEED]");
         exit(2);
     }
-    args
+    found
 }
 
 fn main() {
     trial::keep_panics();
-    let flag = std::env::args().nth(1).filter(|text| ["--handle-4", "--index"].contains(&text.as_str()));
-    if flag.as_deref() == Some("--index") {
-        let args = numbers(flag.as_deref(), 2);
+    let args: Vec<String> = std::env::args().skip(1).collect();
+    if args.first().is_some_and(|text| text == "--index") {
+        let args = numbers(&args[1..], 2);
         return compare_lookups(args[0], args.get(1).copied().unwrap_or(1));
     }
-    let args = numbers(flag.as_deref(), 3);
+    let (text, args) = Text::asked(&args);
+    let args = numbers(args, 3);
     let from = args.get(2).copied().unwrap_or(0);
     let shared = Shared {
-        handle: if flag.is_some() { SHORT_HANDLE } else { USUAL_HANDLE },
+        text,
         end: from + args[0],
         run: args.get(1).copied().unwrap_or(1),
         next: AtomicU64::new(from),
         compared: AtomicU64::new(0),
         indexes: AtomicU64::new(0),
+        otherwise: AtomicU64::new(0),
         differences: AtomicU64::new(0),
         output: Mutex::new(()),
     };
     println!("{}", compare_all(&shared).table());
+    if text != Text::TYPES {
+        println!("{} answered otherwise by types.rs itself", shared.otherwise.load(Ordering::Relaxed));
+    }
     println!("{} indexes compared", shared.indexes.load(Ordering::Relaxed));
     end(shared.compared.load(Ordering::Relaxed), shared.differences.load(Ordering::Relaxed))
 }
@@ -150,11 +163,12 @@ fn work(shared: &Shared) -> Coverage {
         }
         let seed = seed_of(shared.run, number);
         let made = std::panic::catch_unwind(|| {
-            let (one, measured) = with_handle(seed, shared.handle);
+            let (one, measured) = made_for(seed, shared.text);
             let expected = outcome(&one, &measured);
-            (one, expected, measured.least_words)
+            let otherwise = shared.answered_otherwise(&one, &expected);
+            (one, expected, otherwise, measured.least_words)
         });
-        let Ok((one, expected, least)) = made else {
+        let Ok((one, expected, otherwise, least)) = made else {
             shared.difference(|| println!("---- seed {seed}: the oracle itself stopped"));
             continue;
         };
@@ -166,6 +180,7 @@ fn work(shared: &Shared) -> Coverage {
             .or_else(|| words_differ(&one.bytes, least.map(|words| words + 1).ok_or(expected.number())));
         shared.compared.fetch_add(1, Ordering::Relaxed);
         shared.indexes.fetch_add(u64::from(expected.number() == 0), Ordering::Relaxed);
+        shared.otherwise.fetch_add(u64::from(otherwise), Ordering::Relaxed);
         if let Some(answer) = found {
             shared.difference(|| show(shared, seed, &one, &expected, &answer, &mut buffers));
         }

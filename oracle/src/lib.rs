@@ -14,10 +14,30 @@ macro_rules! check_of {
     };
 }
 
+/// Around a copy of types.rs, as it is and with the probes in it.
+macro_rules! copy_of_types {
+    ($verbatim:literal, $probed:literal) => {
+        pub(crate) use crate::coroutine::{NativeBodyReturn, dialogue};
+
+        #[allow(dead_code)]
+        #[path = $verbatim]
+        mod types;
+
+        #[allow(dead_code)]
+        #[path = $probed]
+        mod probed_types;
+
+        check_of!(verbatim, types);
+        check_of!(probed, probed_types);
+    };
+}
+
 // Names that types.rs looks for at the root of its crate.
 mod coroutine;
 mod found;
 mod handle_4;
+mod handle_4_next_branch;
+mod next_branch;
 mod probe;
 #[path = "probed.rs"]
 mod probed;
@@ -26,6 +46,7 @@ pub mod form;
 pub mod generate;
 pub mod index;
 pub mod judged;
+pub mod listing;
 pub mod lookup;
 pub mod model;
 pub mod module;

@@ -1,7 +1,7 @@
 //! The command line program `oracle`.
 
-use oracle::judged::judged;
-use oracle::model::{Take, at16, split_field};
+use oracle::judged::{Text, judged};
+use oracle::listing::listing;
 use oracle::run::{self, Outcome};
 use oracle::text;
 use std::io::Write;
@@ -14,7 +14,7 @@ const USAGE: &str = "oracle bytes FILE.txt > FILE.bin
 oracle text FILE.bin
 oracle check FILE.(txt|bin) [words] [report_len] [limit]
 oracle case NAME FILE [words] [limit]   the call as a case of the definition, in antt
-oracle generate SEED            the description of a seed, as text
+oracle generate [--handle-4] [--next-branch] SEED   the description of a seed, as text
 oracle coverage COUNT [SEED]    generated descriptions: what they reach";
 
 fn stop(message: &str) -> ! {
@@ -53,17 +53,21 @@ fn main() {
             let (words, limit) = (number(args.get(3), 16384), number(args.get(4), 1_000_000));
             print!("{}", case(name, &read(path), words, limit));
         }
-        ["generate", seed] => {
-            let one = oracle::generate::generate(number(Some(&seed.to_string()), 0));
-            println!("# words {} report {} limit {}", one.words, one.report_len, one.limit);
-            print!("{}", text::print_bytes(&one.bytes));
-        }
+        ["generate", ..] => generate(&args[1..]),
         ["coverage", _, ..] if args.len() <= 3 => {
             let (count, seed) = (number(args.get(1), 0), number(args.get(2), 1));
             print!("{}", oracle::generate::coverage::over(count, seed, judged).table());
         }
         _ => stop(USAGE),
     }
+}
+
+/// Prints the description of a seed, behind the flags of `compare`.
+fn generate(args: &[String]) {
+    let (text, [seed]) = Text::asked(args) else { stop(USAGE) };
+    let (one, _) = oracle::generate::made_for(number(Some(seed), 0), text);
+    println!("# words {} report {} limit {}", one.words, one.report_len, one.limit);
+    print!("{}", text::print_bytes(&one.bytes));
 }
 
 /// Numbers as a list of antt.
@@ -81,47 +85,4 @@ fn case(name: &str, bytes: &[u8], words: u64, limit: u32) -> String {
     format!(
         "unfoldable {name} : Case\n{name} =\n    record {{\n      description = {description};\n      words = {words};\n      limit = {limit};\n      gives = {gives};\n    }}\n"
     )
-}
-
-/// Document 01's listing of an outcome.
-fn listing(outcome: &Outcome) -> String {
-    let (report, steps) = match outcome {
-        Outcome::Refused(r) => {
-            return format!("refused {} {} {} {}\n", r.number, r.chunk, r.instruction, r.steps);
-        }
-        Outcome::Accepted { report, steps } => (report, steps),
-    };
-    let mut out = String::new();
-    let mut rest = &report[..];
-    while let Some((tag, contents, after)) = split_field(rest) {
-        rest = after;
-        let line = fields(tag, contents, *steps).expect("a report's field");
-        out += &line;
-    }
-    out
-}
-
-fn fields(tag: u8, contents: &[u8], steps: u32) -> Option<String> {
-    let mut take = Take(contents);
-    Some(match tag {
-        16 => format!("accepted {steps} reply {}\n", take.u32()?),
-        19 => {
-            let (chunk, instruction) = (take.u16()?, take.u16()?);
-            let (stack, locals) = (take.u16()?, take.u16()?);
-            let cells = &contents[12..];
-            let masks = |from: u16, count: u16| {
-                let mask = |k: u16| {
-                    let at = 49 * usize::from(from + k);
-                    at16(cells, at).to_string()
-                };
-                let all: Vec<String> = (0..count).map(mask).collect();
-                if all.is_empty() { "-".to_string() } else { all.join(" ") }
-            };
-            let (stack, locals) = (masks(0, stack), masks(stack, locals));
-            format!("{chunk} {instruction} stack {stack} locals {locals}\n")
-        }
-        20 => format!("inspection {} {}\n", take.u16()?, take.u16()?),
-        21 => format!("branch {} {} {}\n", take.u16()?, take.u16()?, take.u8()?),
-        _ => String::new(),
-    })
 }

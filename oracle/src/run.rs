@@ -3,9 +3,10 @@
 
 use crate::coroutine::dialogue::Plan;
 use crate::found::Found;
-use crate::model::{Description, SHORT_HANDLE};
+use crate::judged::{Text, text_of};
+use crate::model::Description;
 use crate::module::{Given, given};
-use crate::{LowerError, coroutine, form, handle_4, probe, probed, report};
+use crate::{LowerError, coroutine, form, handle_4, handle_4_next_branch, next_branch, probe, probed, report};
 use keleusma::bytecode::Module;
 use keleusma::told;
 
@@ -55,7 +56,22 @@ pub fn check(bytes: &[u8], words: u64, report_len: usize, limit: u32) -> Outcome
     measure(bytes, words, report_len, limit).outcome
 }
 
+/// What this text answers, whichever judges the description.
+pub fn check_by(text: Text, bytes: &[u8], words: u64, report_len: usize, limit: u32) -> Outcome {
+    measure_by(|_| text, bytes, words, report_len, limit).outcome
+}
+
 pub fn measure(bytes: &[u8], words: u64, report_len: usize, limit: u32) -> Measured {
+    measure_by(text_of, bytes, words, report_len, limit)
+}
+
+fn measure_by(
+    text: impl Fn(&Description) -> Text,
+    bytes: &[u8],
+    words: u64,
+    report_len: usize,
+    limit: u32,
+) -> Measured {
     if let Err(refusal) = form::check(bytes) {
         let outcome = Outcome::Refused(refusal);
         return Measured { outcome, least_words: None, most_queued: 0 };
@@ -66,7 +82,7 @@ pub fn measure(bytes: &[u8], words: u64, report_len: usize, limit: u32) -> Measu
         let outcome = refused(5, None, 0);
         return Measured { outcome, least_words: Some(least), most_queued: 0 };
     }
-    let outcome = run(&d, words - least, report_len, limit);
+    let outcome = run(text(&d), &d, words - least, report_len, limit);
     Measured { outcome, least_words: Some(least), most_queued: probe::most() }
 }
 
@@ -126,16 +142,18 @@ fn signatures(d: &Description) -> Option<(u8, usize)> {
 /// `check` of a text of types.rs.
 type Check = fn(&Module, usize, Plan) -> Result<Found, LowerError>;
 
-/// The text that judges a description, as it is and with the probes.
-fn texts(d: &Description) -> (Check, Check) {
-    match d.header.handle {
-        SHORT_HANDLE => (handle_4::verbatim, handle_4::probed),
-        _ => (coroutine::verbatim, probed::probed),
+/// A text as it is and with the probes.
+fn checks(text: Text) -> (Check, Check) {
+    match (text.handle_4, text.next_branch) {
+        (false, false) => (coroutine::verbatim, probed::probed),
+        (true, false) => (handle_4::verbatim, handle_4::probed),
+        (false, true) => (next_branch::verbatim, next_branch::probed),
+        (true, true) => (handle_4_next_branch::verbatim, handle_4_next_branch::probed),
     }
 }
 
-fn run(d: &Description, capacity: u64, report_len: usize, limit: u32) -> Outcome {
-    let (verbatim, probed) = texts(d);
+fn run(text: Text, d: &Description, capacity: u64, report_len: usize, limit: u32) -> Outcome {
+    let (verbatim, probed) = checks(text);
     let Given { module, entry, plan, declared } = given(d);
     told::begin(&declared);
     probe::begin(limit, capacity);

@@ -2,6 +2,7 @@
 
 use oracle::generate::random::Random;
 use oracle::generate::{generate, seed_of};
+use oracle::judged::judged;
 use oracle::model::*;
 use oracle::ops::*;
 use oracle::run::{self, Outcome};
@@ -21,8 +22,8 @@ pub fn all(seed: u64) -> Vec<Group> {
     ]
 }
 
-/// The first generated descriptions that are accepted: one to six chunks, few
-/// instructions each.
+/// The first generated descriptions that types.rs judges and accepts: one to six
+/// chunks, few instructions each.
 fn small(seed: u64, count: usize) -> Vec<Vec<u8>> {
     let mut made = Vec::new();
     let mut number = 0;
@@ -31,7 +32,7 @@ fn small(seed: u64, count: usize) -> Vec<Vec<u8>> {
         number += 1;
         let Some(d) = Description::decode(&bytes) else { continue };
         let instructions: usize = d.chunks.iter().map(|chunk| chunk.code.len()).sum();
-        if d.chunks.len() > 6 || !(12..=100).contains(&instructions) {
+        if d.chunks.len() > 6 || !(12..=100).contains(&instructions) || !judged(&d) {
             continue;
         }
         let outcome = run::check(&bytes, d.least_words() + 1000, usize::MAX, 20_000);

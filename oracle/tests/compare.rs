@@ -36,13 +36,22 @@ fn driven(args: &[&str], wrong: &str) -> (bool, String) {
     (out.status.success(), String::from_utf8(out.stdout).expect("text"))
 }
 
+/// How many were compared, in a run that ended well; the rest was left out.
+fn all_good(args: &[&str], of: u64) -> (u64, String) {
+    let (good, output) = driven(args, "");
+    let last = output.lines().last().unwrap_or("");
+    let compared: u64 = last.split(' ').next().and_then(|number| number.parse().ok()).expect(last);
+    assert!(good && last.ends_with(" compared, 0 differences"), "{last}");
+    assert!(output.contains(&format!("| all | {compared} |\n| left out by intention | {} |\n", of - compared)));
+    (compared, output)
+}
+
 #[test]
 fn nothing_differs_from_itself() {
-    let (good, output) = compared("3000", "");
-    assert!(good);
-    assert_eq!(output.lines().last(), Some("3000 compared, 0 differences"));
-    assert!(output.contains("| all | 3000 |\n| left out by intention | 0 |\n"));
+    let (compared, output) = all_good(&["3000", "2"], 3000);
+    assert!(compared > 2_980, "{compared}");
     assert!(output.contains("| CallExternalNative | "));
+    assert!(!output.contains("answered otherwise"));
     let accepted = output.lines().find_map(|line| line.strip_prefix("| accepted | ")).expect("a count");
     let accepted = accepted.trim_end_matches([' ', '|']);
     assert!(accepted.len() > 2 && output.contains(&format!("\n{accepted} indexes compared\n")), "{accepted}");
@@ -61,21 +70,39 @@ fn no_lookup_differs_from_itself() {
     assert!(agreeing > 20_000 && compared - agreeing > 20_000, "{output}");
 }
 
-/// With short handles: nothing differs from itself, a port that packs eight bytes does.
+/// What is made for a copy of types.rs: nothing differs from itself, and so many at least
+/// are answered otherwise by types.rs itself. A port that is wrong there is noticed; where
+/// types.rs judges, it isn't wrong.
+fn held_against_its_copy(flags: &[&str], fault: &str, least: u64, least_otherwise: u64) {
+    let args = [flags, &["3000", "2"]].concat();
+    let (compared, output) = all_good(&args, 3000);
+    let otherwise = output.lines().find_map(|line| line.strip_suffix(" answered otherwise by types.rs itself"));
+    let otherwise: u64 = otherwise.and_then(|number| number.parse().ok()).expect("a count");
+    assert!(compared > least && otherwise > least_otherwise, "{compared} {otherwise}");
+    let (good, output) = driven(&args, fault);
+    assert!(!good, "{fault}");
+    assert!(output.lines().last().unwrap_or("").ends_with(" compared, 10 differences"), "{fault}");
+    let (good, _) = driven(&["3000", "2"], fault);
+    assert!(good, "{fault}");
+}
+
 #[test]
 fn short_handles_are_held_against_their_own_text() {
-    let (good, output) = driven(&["--handle-4", "3000", "2"], "");
-    assert!(good);
-    let last = output.lines().last().unwrap_or("");
-    let compared: u64 = last.split(' ').next().and_then(|number| number.parse().ok()).expect(last);
-    assert!(compared > 2_900 && last.ends_with(" compared, 0 differences"), "{last}");
-    assert!(output.contains(&format!("| all | {compared} |\n| left out by intention | {} |\n", 3000 - compared)));
-    let (good, output) = driven(&["--handle-4", "3000", "2"], "handle of eight");
-    assert!(!good);
-    assert!(output.lines().last().unwrap_or("").ends_with(" compared, 10 differences"));
-    // The other way no description has short handles.
-    let (good, _) = driven(&["3000", "2"], "handle of eight");
-    assert!(good);
+    held_against_its_copy(&["--handle-4"], "handle of eight", 2_900, 50);
+}
+
+#[test]
+fn branches_to_the_next_are_held_against_their_own_text() {
+    for fault in ["narrowed to the next", "next not listed"] {
+        held_against_its_copy(&["--next-branch"], fault, 2_550, 500);
+    }
+}
+
+#[test]
+fn short_handles_with_branches_to_the_next_are_held_against_their_own_text() {
+    for fault in ["handle of eight", "narrowed to the next"] {
+        held_against_its_copy(&["--next-branch", "--handle-4"], fault, 2_500, 500);
+    }
 }
 
 #[test]

@@ -2,11 +2,11 @@
 //! instructions, and bounds that fit exactly or fall short by one.
 
 use oracle::generate::coverage::over;
-use oracle::generate::{generate, outcome, seed_of, with_handle, with_measure};
-use oracle::judged::judged;
+use oracle::generate::{generate, made_for, outcome, seed_of, with_measure};
+use oracle::judged::{Text, judged, next_branches, text_of};
 use oracle::model::Description;
 use oracle::ops;
-use oracle::run::{Outcome, check};
+use oracle::run::{Outcome, check, check_by};
 
 #[test]
 fn a_seed_gives_the_same_again() {
@@ -19,8 +19,10 @@ fn a_seed_gives_the_same_again() {
 #[test]
 fn every_outcome_and_every_instruction_is_reached() {
     let coverage = over(20_000, 7, judged);
-    assert_eq!(coverage.descriptions, 20_000);
-    assert_eq!(coverage.outcomes.iter().sum::<u64>(), 20_000);
+    // What damage and chance make is left out: hardly any.
+    assert_eq!(coverage.descriptions + coverage.left_out, 20_000);
+    assert!(coverage.left_out < 100, "{}", coverage.left_out);
+    assert_eq!(coverage.outcomes.iter().sum::<u64>(), coverage.descriptions);
     for (number, count) in coverage.outcomes.iter().enumerate() {
         assert!(*count > 0, "outcome {number}");
     }
@@ -34,19 +36,62 @@ fn every_outcome_and_every_instruction_is_reached() {
     }
 }
 
-/// The size of a handle tells in a good part of what is made with short ones.
-#[test]
-fn short_handles_make_a_difference() {
-    let (mut short, mut differ) = (0, 0);
+/// How many of 3000 that are made for a text are judged by it, and how many of these
+/// types.rs itself answers otherwise.
+fn made_and_otherwise(run: u64, text: Text) -> (u64, u64) {
+    let (mut made, mut otherwise) = (0, 0);
     for number in 0..3000 {
-        let (one, measured) = with_handle(seed_of(6, number), 4);
-        let Some(mut d) = Description::decode(&one.bytes).filter(|d| d.header.handle == 4) else { continue };
-        short += 1;
-        d.header.handle = 8;
+        let (one, measured) = made_for(seed_of(run, number), text);
+        if Description::decode(&one.bytes).is_none_or(|d| text_of(&d) != text) {
+            continue;
+        }
         let words = measured.least_words.map_or(0, |least| least + 100_000);
-        differ += u64::from(check(&d.encode(), words, usize::MAX, 20_000) != measured.outcome);
+        made += 1;
+        otherwise += u64::from(check_by(Text::TYPES, &one.bytes, words, usize::MAX, 20_000) != measured.outcome);
     }
-    assert!(short > 2_800 && differ > 100, "{short} {differ}");
+    (made, otherwise)
+}
+
+/// What a copy has changed tells in a good part of what is made for it.
+#[test]
+fn what_is_made_for_a_copy_makes_a_difference() {
+    let (handle_4, next_branch) = (Text { handle_4: true, ..Text::TYPES }, Text { next_branch: true, ..Text::TYPES });
+    let (made, otherwise) = made_and_otherwise(6, handle_4);
+    assert!(made > 2_800 && otherwise > 100, "{made} {otherwise}");
+    let (made, otherwise) = made_and_otherwise(6, next_branch);
+    assert!(made > 2_550 && otherwise > 600, "{made} {otherwise}");
+    let (made, otherwise) = made_and_otherwise(6, Text { handle_4: true, next_branch: true });
+    assert!(made > 2_500 && otherwise > 600, "{made} {otherwise}");
+    assert_eq!(made_and_otherwise(6, Text::TYPES).1, 0);
+}
+
+/// A branch, by what stands before it, what stands after it (`none` past the end) and
+/// whose chunk it is in.
+fn surroundings(d: &Description, (chunk, at): (usize, usize)) -> [String; 3] {
+    let code = &d.chunks[chunk].code;
+    let name = |at: usize| code.get(at).map_or("none", |i| ops::NAMES.get(usize::from(i.op)).unwrap_or(&"?"));
+    let whose = if chunk == usize::from(d.header.entry) { "the entry" } else { "a callee" };
+    let test = name(at);
+    let before = at.checked_sub(1).map_or("none", name);
+    [format!("{test} after {before}"), format!("{test} before {}", name(at + 1)), format!("{test} in {whose}")]
+}
+
+#[test]
+fn branches_to_the_next_stand_everywhere() {
+    let made = |number| made_for(seed_of(8, number), Text { next_branch: true, ..Text::TYPES }).0;
+    let mut seen = std::collections::BTreeMap::new();
+    for d in (0..3000).filter_map(|number| Description::decode(&made(number).bytes)) {
+        let all = next_branches(&d).flat_map(|place| surroundings(&d, place));
+        all.for_each(|what| *seen.entry(what).or_insert(0) += 1);
+    }
+    let places = [
+        "after IsEnum", "after Not", "after PushImmediate", "after GetLocal", "after CmpLt", "after Dup", "before EndIf",
+        "before Else", "before EndLoop", "before PopN", "before none", "in the entry", "in a callee",
+    ];
+    for place in places.iter().flat_map(|place| [format!("If {place}"), format!("BreakIf {place}")]) {
+        let count = seen.get(&place).copied().unwrap_or(0);
+        assert!(count > 20, "{place}: {count}");
+    }
 }
 
 #[test]

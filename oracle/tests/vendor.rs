@@ -35,17 +35,38 @@ fn without_probes_and_tail_the_woven_texts_are_types_rs() {
     assert_eq!(plain(&file("target/woven/probed.rs"), &tail), (types, 6));
 }
 
-/// The one constant, and no other byte.
-#[test]
-fn the_copy_for_short_handles_differs_in_one_line() {
+const HANDLE_4: (&str, &str) = ("            (OPAQUE, 8),", "            (OPAQUE, 4),");
+/// The single way, and nothing narrowed on it.
+const NEXT_BRANCH: [(&str, &str); 2] = [
+    (
+        "                Op::If(t) | Op::BreakIf(t) => {",
+        "                Op::If(t) | Op::BreakIf(t) if *t as usize != ip + 1 => {",
+    ),
+    (
+        "                if let Op::If(target) | Op::BreakIf(target) = op {",
+        "                if let Op::If(target) | Op::BreakIf(target) = op && *target as usize != ip + 1 {",
+    ),
+];
+
+/// The copy is types.rs with these lines changed and no other, as it is and with the probes.
+fn differs_in(name: &str, changes: &[(&str, &str)]) {
     let types = file("vendor/types.rs");
-    let copy = file("target/woven/handle-4.rs");
+    let copy = file(&format!("target/woven/{name}.rs"));
     let differ: Vec<(&str, &str)> = types.lines().zip(copy.lines()).filter(|(a, b)| a != b).collect();
-    assert_eq!(differ, [("            (OPAQUE, 8),", "            (OPAQUE, 4),")]);
-    assert_eq!((types.lines().count(), types.len()), (copy.lines().count(), copy.len()));
+    assert_eq!(differ, changes, "{name}");
+    assert_eq!(types.lines().count(), copy.lines().count(), "{name}");
+    let longer: usize = changes.iter().map(|(old, new)| new.len() - old.len()).sum();
+    assert_eq!(types.len() + longer, copy.len(), "{name}");
     let tail = file("standins/tail.rs");
-    assert_eq!(plain(&file("target/woven/handle-4-verbatim.rs"), &tail), (copy.clone(), 0));
-    assert_eq!(plain(&file("target/woven/handle-4-probed.rs"), &tail), (copy, 6));
+    assert_eq!(plain(&file(&format!("target/woven/{name}-verbatim.rs")), &tail), (copy.clone(), 0), "{name}");
+    assert_eq!(plain(&file(&format!("target/woven/{name}-probed.rs")), &tail), (copy, 6), "{name}");
+}
+
+#[test]
+fn the_copies_differ_in_the_lines_of_their_changes() {
+    differs_in("handle-4", &[HANDLE_4]);
+    differs_in("next-branch", &NEXT_BRANCH);
+    differs_in("handle-4-next-branch", &[&[HANDLE_4][..], &NEXT_BRANCH].concat());
 }
 
 #[test]

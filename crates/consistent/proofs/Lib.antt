@@ -3,6 +3,7 @@ pub mod States
 pub mod Absorb
 pub mod Visits
 pub mod Wider
+pub mod Next
 pub mod Records
 pub mod Range
 pub mod Calls

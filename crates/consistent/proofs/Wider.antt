@@ -38,9 +38,10 @@ use Rattle.definition.specs.Module.{Chunk}
 use Rattle.definition.specs.State.{State, Facts, Gift}
 use Rattle.definition.specs.Outputs.{Visit, arg, instr, shared, noCell, setting}
 use Rattle.definition.specs.Wants.{require, wants, isEntry, pairKinds, wantBy, declaredMask, wantOf, atIndex, operandCheck, operandChecks, checksBy, checks, isProven, allProven, unpacked, unfit}
-use Rattle.definition.specs.Ways.{branch, waysOf, receiverOn, narrowing, along, narrowed, setLocals, kept, isReset, after, leaving}
+use Rattle.definition.specs.Ways.{branch, exitOf, exitFrom, waysOf, receiverOn, narrowing, along, narrowed, setLocals, kept, isReset, after, leaving}
 use Rattle.definition.specs.Leaves.{Known, visitOf, leaves, lineAt}
 use Rattle.definition.specs.Report.{isTest}
+use Rattle.definition.proofs.Next.{exit-test}
 use Rattle.machine_laws.proofs.Bind.{none≢some}
 use Rattle.rule_laws.proofs.Tests.{test-rule}
 use Rattle.consistent.specs.Consistent.{TakesAll, TakesIn}
@@ -199,7 +200,7 @@ all-at xs ys t n = go (decLt n (length ys))
         rw (List·getD-eq-default ys noCell l, List·getD-eq-default xs noCell l′) (cell-joins .idem noCell)
 
 -- the local masks of a test's visit are its state's
-still-locals : (v : Visit) → v .rule .acts ≡ Still → after v .locals ≡ v .locals
+pub still-locals : (v : Visit) → v .rule .acts ≡ Still → after v .locals ≡ v .locals
 unfolding after isReset kept setting setLocals
 still-locals v e = rw e
 
@@ -229,6 +230,10 @@ module _ (k : Known) (c : Chunk) (f : Facts) (i : ℕ) (s was : State) (t : Take
   unfolding visitOf
   operand = top-takes (s .stack) (was .stack) (lineAt c i .instr .taken) (t .stack)
 
+  test : isTest (exitFrom v) ≡ true → isTest (v₀ .rule .exit) ≡ true
+  unfolding visitOf
+  test u = exit-test (v .rule .exit) (v .at) (instr v .a) u
+
   condition : isTest (v₀ .rule .exit) ≡ true → unfit v₀ ≡ 0 → Known′ (arg v 0 .mask) (arg v₀ 0 .mask)
   unfolding visitOf
   condition u h =
@@ -253,8 +258,8 @@ module _ (k : Known) (c : Chunk) (f : Facts) (i : ℕ) (s was : State) (t : Take
   wider e h to x m =
       let a = accepted k true c f i was e h in
       let (w₀, g₀) = leaving-in v₀ (after v₀) _ to x (rw (← a .is) at m) in
-      let w = ways-wider (v .rule .exit) i (instr v .a) (arg v 0 .mask) (arg v₀ 0 .mask) to (cell-mask _ _ operand) (λ u. condition u (a .proven)) w₀ in
+      let w = ways-wider (exitFrom v) i (instr v .a) (arg v 0 .mask) (arg v₀ 0 .mask) to (cell-mask _ _ operand) (λ u. condition (test u) (a .proven)) w₀ in
       let (y, g) =
-      narrow-wider (v .rule .exit) (arg v 0 .flow .predicate) (arg v₀ 0 .flow .predicate) (instr v .a) to (after v) (after v₀) x
-      (kept-predicate _ _ (ap (λ (z : Cell). z .flow .predicate) operand)) enums g₀ in
+      narrow-wider (exitFrom v) (arg v 0 .flow .predicate) (arg v₀ 0 .flow .predicate) (instr v .a) to (after v) (after v₀) x
+      (kept-predicate _ _ (ap (λ (z : Cell). z .flow .predicate) operand)) (λ u. enums (test u)) g₀ in
       (y, in-leaving v (after v) _ to y g w)

@@ -1,9 +1,9 @@
 -- The ways that leave an instruction, and what leaves along each.
 -- Of types.rs: the successors (lines 1236 to 1255) and the narrowing on each way (1256 to 1266), `narrow_enum` and `invalidate` of `Facts`
 -- (342 to 363); the state that leaves (1233 to 1235), with what is forgotten where a local is set (1152 to 1192), and after `Reset` (987 to
--- 994, 1067 to 1074, 1203 to 1210). Of document 01: "Passes" in "Steps and passes".
--- Readings, all of them what types.rs does: D7 a branch to the very next instruction has two equal ways, D8 narrowing keeps the other
--- extents.
+-- 994, 1067 to 1074, 1203 to 1210). Of document 01: "Passes" in "Steps and passes". Of document 02: Four (`exitOf`).
+-- Where it differs: a test whose target is the very next instruction has a single way there, without narrowing and never cut. types.rs has
+-- two equal ways, and narrows or cuts both. Reading, what types.rs does: D8 narrowing keeps the other extents.
 -- Left open: whether a target lies in the chunk. Targets past the end stand in the list too; the machine drops them (`putIn` in
 -- Machine.antt), as types.rs does at 1267, after the narrowing. Recursion goes along lists (ways, cells).
 use Prim.Native.Nat.{ℕ, suc}
@@ -31,6 +31,15 @@ use Rattle.definition.specs.declared.Made.{Made}
 use Rattle.definition.specs.Module.{row}
 use Rattle.definition.specs.State.{State}
 use Rattle.definition.specs.Outputs.{Visit, Setting, arg, instr, noCell, output, outputs, setting}
+
+-- how control leaves the instruction i: a test whose target is the next instruction decides nothing, so it goes on as one that tests nothing
+unfoldable pub exitOf : Exit → ℕ → ℕ → Exit
+exitOf Next i target = Next
+exitOf Stops i target = Stops
+exitOf Jumps i target = Jumps
+exitOf Ifs i target = cond (eqb target (suc i)) Next Ifs
+exitOf Breaks i target = cond (eqb target (suc i)) Next Breaks
+exitOf Restarts i target = Restarts
 
 -- a condition that is exactly one Bool keeps one way: `jumps` goes to the target, `stays` on
 unfoldable pub branch : Mask → Mask → Mask → ℕ → ℕ → List ℕ
@@ -120,9 +129,13 @@ unfoldable pub onWay : ℕ → Option State → List (ℕ × State) → List (�
 onWay to none ws = ws
 onWay to (some x) ws = (to, x) ∷ ws
 
+-- how control leaves a visit
+abbrev pub exitFrom : Visit → Exit
+exitFrom v = exitOf (v .rule .exit) (v .at) (instr v .a)
+
 -- the local that is narrowed on the way to `to`
 abbrev pub narrowedOn : Visit → ℕ → Option ℕ
-narrowedOn v to = narrowing (v .rule .exit) (arg v 0 .flow .predicate) (instr v .a) to
+narrowedOn v to = narrowing (exitFrom v) (arg v 0 .flow .predicate) (instr v .a) to
 
 -- what leaves along each way that is not cut
 unfoldable pub leavingBy : Visit → State → List ℕ → List (ℕ × State)
@@ -130,4 +143,4 @@ leavingBy v x [] = []
 leavingBy v x (to ∷ tos) = onWay to (along x (narrowedOn v to)) (leavingBy v x tos)
 
 unfoldable pub leaving : Visit → List (ℕ × State)
-leaving v = leavingBy v (after v) (waysOf (v .rule .exit) (v .at) (instr v .a) (arg v 0 .mask))
+leaving v = leavingBy v (after v) (waysOf (exitFrom v) (v .at) (instr v .a) (arg v 0 .mask))

@@ -10,6 +10,7 @@ use borrow.Author.Tests.{le-ltb, leb-true, leb-false}
 use lib.Dec.{leb}
 use lib.ListN.{length}
 use Rattle.cells.specs.declared.Cell.{Cell}
+use Rattle.ops.specs.declared.Exit.{Exit}
 use Rattle.ring.specs.declared.Queue.{Queue}
 use Rattle.ring.specs.Ring.{QueueReady}
 use Rattle.definition.specs.Res.{ok, bind}
@@ -37,7 +38,7 @@ use Rattle.ways.specs.Ways.{receiver}
 use Rattle.masks.proofs.Both.{neither}
 use Rattle.propagate.specs.declared.Went.{Went}
 use Rattle.propagate.specs.declared.Went.the-variants.{On}
-use Rattle.propagate.specs.Passing.{LeavesInRow, leavesWith, alongIn, condition, passes, Passed, narrowedIn}
+use Rattle.propagate.specs.Passing.{LeavesInRow, leavesWith, alongIn, condition, exitIn, passes, Passed, narrowedIn}
 use Rattle.propagate.specs.Steps.{cutIn, localOn, wayAt, Open, PassReady, Beside}
 use Rattle.propagate.proofs.Cuts.{cut-passes, on-passes, on-local}
 
@@ -102,9 +103,9 @@ module _ (s ws : List ℕ) (t : Tables) (ch : Chunk) (v : RowVisit) (l : Leaving
               narrow = k;
             }
 
-    module _ (n : Narrows) (y : Cell) (ye : y ≡ condition ws v) (e : receiver n ≡ narrowing (v .rule .exit) (y .flow .predicate) (v .ins .a) to) (b : Bool) (be : b ≡ cutIn ws ch v n) where
+    module _ (n : Narrows) (y : Cell) (ye : y ≡ condition ws v) (exit : Exit) (ee : exit ≡ exitIn v) (e : receiver n ≡ narrowing exit (y .flow .predicate) (v .ins .a) to) (b : Bool) (be : b ≡ cutIn ws ch v n) where
       by : receiver n ≡ narrowedIn ws v to
-      by = e ∙ ap (λ (z : Cell). narrowing (v .rule .exit) (z .flow .predicate) (v .ins .a) to) ye
+      by = e ∙ (λ i. narrowing (ee i) (ye i .flow .predicate) (v .ins .a) to)
 
       pub none-pass : (b || leb (ch .count) to) ≡ true → Passed s ws ws v q (passes ws ch v l to) (On q) × Beside s v to ws ws
       unfolding Beside

@@ -42,7 +42,7 @@ use Rattle.ways.specs.declared.Ways.the-variants.{Zero, One, Two}
 use Rattle.ways.specs.Ways.{targets}
 use Rattle.propagate.specs.declared.Went.{Went}
 use Rattle.propagate.specs.declared.Went.the-variants.{On, Stop}
-use Rattle.propagate.specs.Passing.{localsOf, leavesWith, alongIn, condition, passes, passesAll, waysIn, Passed, narrowedIn}
+use Rattle.propagate.specs.Passing.{localsOf, leavesWith, alongIn, condition, exitIn, passes, passesAll, waysIn, Passed, narrowedIn}
 use Rattle.propagate.specs.Steps.{PassReady, Beside}
 use Rattle.propagate.proofs.Turns.{still}
 
@@ -103,13 +103,13 @@ module _ (s ws : List ℕ) (t : Tables) (ch : Chunk) (v : RowVisit) (l : Leaving
     unfolding passes
     passes-same to =
         ap (λ (y : Option State). onWay to y []) (along-same (narrowedIn w v to))
-        ∙ ap (λ (cs : List Cell). onWay to (alongIn ws ch v l (narrowing (v .rule .exit) (getD cs 0 noCell .flow .predicate) (v .ins .a) to)) []) args-same
+        ∙ ap (λ (cs : List Cell). onWay to (alongIn ws ch v l (narrowing (exitIn v) (getD cs 0 noCell .flow .predicate) (v .ins .a) to)) []) args-same
 
   -- ---- the ways, by the code's answer
-  module _ (y : Cell) (ye : y ≡ condition ws v) (k : Ways) (e : targets k ≡ waysOf (v .rule .exit) (v .at) (v .ins .a) (y .mask)) where
+  module _ (y : Cell) (ye : y ≡ condition ws v) (exit : Exit) (ee : exit ≡ exitIn v) (k : Ways) (e : targets k ≡ waysOf exit (v .at) (v .ins .a) (y .mask)) where
     ways-are : waysIn ws ch v l ≡ passesAll ws ch v l (targets k)
     unfolding waysIn
-    ways-are = ap (passesAll ws ch v l) (sym (e ∙ ap (λ (z : Cell). waysOf (v .rule .exit) (v .at) (v .ins .a) (z .mask)) ye))
+    ways-are = ap (passesAll ws ch v l) (sym (e ∙ (λ i. waysOf (ee i) (v .at) (v .ins .a) (ye i .mask))))
 
     ways-none : k ≡ Zero → waysIn ws ch v l ≡ []
     unfolding passesAll
@@ -146,7 +146,7 @@ module _ (s ws : List ℕ) (t : Tables) (ch : Chunk) (v : RowVisit) (l : Leaving
         rows-only = g .1
 
         next : a ≡ suc (v .at)
-        next = first-on (v .rule .exit) (v .at) (v .ins .a) (y .mask) a b (sym e ∙ ap targets f)
+        next = first-on exit (v .at) (v .ins .a) (y .mask) a b (sym e ∙ ap targets f)
 
         row-same : SameWords ws w (rowAt (moduleOf s) (v .chunk) (v .at)) (16 * rowCells (chunkNo (moduleOf s) (v .chunk)))
         unfolding Beside

@@ -10,11 +10,12 @@ use Rattle.masks.specs.Names.{ENUM}
 use Rattle.cells.specs.declared.Cell.{Cell}
 use Rattle.words.specs.Rows.{cellsAt}
 use Rattle.ring.specs.declared.Queue.{Queue}
+use Rattle.ops.specs.declared.Exit.{Exit}
 use Rattle.definition.specs.Res.{ok, bad}
 use Rattle.definition.specs.Machine.{puts}
 use Rattle.definition.specs.State.{State, join}
 use Rattle.definition.specs.Outputs.{noCell}
-use Rattle.definition.specs.Ways.{waysOf, narrowing, onWay}
+use Rattle.definition.specs.Ways.{exitOf, waysOf, narrowing, onWay}
 use Rattle.layout.specs.declared.Chunk.{Chunk}
 use Rattle.row_join.specs.places.Arrive.{noLocal}
 use Rattle.row_join.specs.declared.joining.Leaving.{Leaving}
@@ -48,9 +49,13 @@ alongIn ws ch v l (some r) = cond (has (getD (localsOf ws ch v) r noCell .mask) 
 abbrev pub condition : List ℕ → RowVisit → Cell
 condition ws v = getD (argsIn ws v) 0 noCell
 
+-- how control leaves the visit
+abbrev pub exitIn : RowVisit → Exit
+exitIn v = exitOf (v .rule .exit) (v .at) (v .ins .a)
+
 -- the local that is narrowed on the way to `to`, as the row has the condition
 abbrev pub narrowedIn : List ℕ → RowVisit → ℕ → Option ℕ
-narrowedIn ws v to = narrowing (v .rule .exit) (condition ws v .flow .predicate) (v .ins .a) to
+narrowedIn ws v to = narrowing (exitIn v) (condition ws v .flow .predicate) (v .ins .a) to
 
 -- what passes to `to`
 unfoldable pub passes : List ℕ → Chunk → RowVisit → Leaving → ℕ → List (ℕ × State)
@@ -63,7 +68,7 @@ passesAll ws ch v l (to ∷ tos) =
 
 -- along all ways
 unfoldable pub waysIn : List ℕ → Chunk → RowVisit → Leaving → List (ℕ × State)
-waysIn ws ch v l = passesAll ws ch v l (waysOf (v .rule .exit) (v .at) (v .ins .a) (condition ws v .mask))
+waysIn ws ch v l = passesAll ws ch v l (waysOf (exitIn v) (v .at) (v .ins .a) (condition ws v .mask))
 
 -- what has passed is what the machine puts; only rows of the chunk and the queue are written
 unfoldable pub Passed : List ℕ → List ℕ → List ℕ → RowVisit → Queue → List (ℕ × State) → Went → Type 0

@@ -5,6 +5,7 @@ use layout::Tables;
 use layout::local_at;
 use layout::row_at;
 use masks::Mask;
+use ops::Exit;
 use ring::Queue;
 use ring::push;
 use row_join::Leaving;
@@ -15,6 +16,7 @@ use visit::RowVisit;
 use visit::operand;
 use ways::Narrows;
 use ways::Ways;
+use ways::exit_of;
 use ways::narrowing;
 use ways::ways_of;
 use words::mask_at;
@@ -23,7 +25,7 @@ ghost use mathlib.Core.List.{List, [], _∷_};
 ghost use Prim.Native.Nat.{ℕ, _+_, _<_, _≤_};
 ghost use lib.ListN.{length};
 ghost use Rattle.row_join.specs.joining.Leave.{rowWords};
-ghost use Rattle.propagate.specs.Passing.{Passed, leavesWith, passes, waysIn};
+ghost use Rattle.propagate.specs.Passing.{Passed, leavesWith, exitIn, passes, waysIn};
 ghost use Rattle.propagate.specs.Steps.{mayBe, cutIn, localOn, QueueStands, EnqueuedIn, Open, PassReady, Beside};
 
 // The queue after a way, or the number of the refusal.
@@ -106,7 +108,7 @@ fn pass(
     }
 }
 
-// One way: nothing passes where it is cut or leads past the end.
+// One way: nothing passes where it is cut or leads past the end. exit: how control leaves the visit.
 fn go(
     s: &[u8],
     ws: &mut [u32],
@@ -115,14 +117,14 @@ fn go(
     v: RowVisit,
     l: Leaving,
     q: Queue,
+    exit: Exit,
     to: usize,
 ) -> Went
     requires { ⌜ PassReady (now s) (now ws) t ch v l q ⌝ }
+    requires { ⌜ exit ≡ exitIn v ⌝ }
     ensures { λ r. ⌜ Passed (now (s .entry)) (now (ws .entry)) (now (ws .exit)) v q (passes (now (ws .entry)) ch v l to) r ⌝ }
     ensures { λ r. ⌜ Beside (now (s .entry)) v to (now (ws .entry)) (now (ws .exit)) ⌝ }
 {
-    let rule = v.rule;
-    let exit = rule.exit;
     let narrow = narrowing(exit, v.ins, operand(ws, v, 0), to);
     if cut(ws, ch, v, narrow) | (ch.count <= to) {
         return Went::On(q);
@@ -145,13 +147,14 @@ pub fn go_all(
 {
     let condition = operand(ws, v, 0);
     let rule = v.rule;
-    let exit = rule.exit;
+    let ruled = rule.exit;
+    let exit = exit_of(ruled, v.ins, v.at);
     match ways_of(exit, v.ins, v.at, condition.mask) {
         Ways::Zero => Went::On(q),
-        Ways::One(to) => go(s, ws, t, ch, v, l, q, to),
-        Ways::Two(next, target) => match go(s, ws, t, ch, v, l, q, next) {
+        Ways::One(to) => go(s, ws, t, ch, v, l, q, exit, to),
+        Ways::Two(next, target) => match go(s, ws, t, ch, v, l, q, exit, next) {
             Went::Stop(n) => Went::Stop(n),
-            Went::On(q) => go(s, ws, t, ch, v, l, q, target),
+            Went::On(q) => go(s, ws, t, ch, v, l, q, exit, target),
         },
     }
 }

@@ -23,7 +23,7 @@ use Rattle.ops.specs.Ops.{ruleOf}
 use Rattle.definition.specs.declared.Made.{Made}
 use Rattle.definition.specs.State.{State}
 use Rattle.definition.specs.Outputs.{Visit, Setting, noCell, arg, instr, outputs, output, setting, madeFrom, firstOutput, secondOutput, restOutput}
-use Rattle.definition.specs.Ways.{waysOf, narrowing, narrowed, along, onWay, forget, kept, isReset, reset, after, narrowedOn, leavingBy, leaving, outputList}
+use Rattle.definition.specs.Ways.{exitOf, exitFrom, waysOf, narrowing, narrowed, along, onWay, forget, kept, isReset, reset, after, narrowedOn, leavingBy, leaving, outputList}
 use Rattle.form_laws.proofs.Each.{row-length}
 use Rattle.layout.specs.declared.Chunk.{Chunk}
 use Rattle.row_join.specs.places.Arrive.{noLocal}
@@ -33,14 +33,14 @@ use Rattle.row_join.specs.joining.Met.{SetAs}
 use Rattle.row_join.proofs.joining.Joined.{leaves-after, leaves-narrowed, leaves-reset-after}
 use Rattle.ways.proofs.Still.{narrowed-still, narrowed-after, narrowed-locals, narrowed-test}
 use Rattle.visit.specs.declared.RowVisit.{RowVisit}
-use Rattle.propagate.specs.Passing.{leavesWith, alongIn, condition, passesAll, waysIn}
+use Rattle.propagate.specs.Passing.{leavesWith, alongIn, condition, exitIn, passesAll, waysIn}
 use Rattle.rule_laws.proofs.Tests.{Testing}
 use Rattle.step.specs.Alike.{Alike}
 
 -- ---- a test makes nothing that has an origin
 module _ (x : Visit) (e : x .rule ≡ ruleOf (instr x .op)) (to r : ℕ) (h : narrowedOn x to ≡ some r) where
   test : Testing (x .rule)
-  test = rw e (narrowed-test (instr x .op) _ _ _ _ (rw e at h))
+  test = rw e (narrowed-test (instr x .op) _ _ _ _ _ (rw e at h))
 
   -- so no output of a test has an origin
   test-outputs : (k : ℕ) → output (outputs x) k .flow .origin ≡ Nowhere
@@ -106,7 +106,7 @@ module _ (ws : List ℕ) (ch : Chunk) (v : RowVisit) (x : Visit) (l : Leaving) (
   -- with a local narrowed
   module _ (to r : ℕ) (h : narrowedOn x to ≡ some r) where
     still : x .rule .acts ≡ Still
-    still = ap (λ (y : Rule). y .acts) (a .table) ∙ narrowed-still (instr x .op) _ _ _ _ (rw (a .table) at h)
+    still = ap (λ (y : Rule). y .acts) (a .table) ∙ narrowed-still (instr x .op) _ _ _ _ _ (rw (a .table) at h)
 
     leaves-narrow : has (getD (x .locals) r noCell .mask) ENUM ≡ true → leavesWith ws ch v l r ≡ narrowed (after x) r
     unfolding isReset setting SetAs
@@ -139,16 +139,19 @@ module _ (ws : List ℕ) (ch : Chunk) (v : RowVisit) (x : Visit) (l : Leaving) (
   condition-is : condition ws v ≡ arg x 0
   condition-is = ap (λ (cs : List Cell). getD cs 0 noCell) (a .args)
 
+  exit-is : exitIn v ≡ exitFrom x
+  exit-is = λ i. exitOf (a .rule i .exit) (a .at i) (a .ins i .a)
+
   passes-alike : (tos : List ℕ) → passesAll ws ch v l tos ≡ leavingBy x (after x) tos
   unfolding passesAll leavingBy
   passes-alike [] = refl
   passes-alike (to ∷ tos) =
-      (λ i. onWay to (alongIn ws ch v l (narrowing (a .rule i .exit) (condition-is i .flow .predicate) (a .ins i .a) to)) (passesAll ws ch v l tos))
+      (λ i. onWay to (alongIn ws ch v l (narrowing (exit-is i) (condition-is i .flow .predicate) (a .ins i .a) to)) (passesAll ws ch v l tos))
       ∙ ap₂ (onWay to) (along-alike to (narrowedOn x to) refl) (passes-alike tos)
 
   -- THEOREM: what passes along the ways is what leaves the visit
   pub ways-alike : waysIn ws ch v l ≡ leaving x
   unfolding waysIn leaving
   ways-alike =
-      (λ i. passesAll ws ch v l (waysOf (a .rule i .exit) (a .at i) (a .ins i .a) (condition-is i .mask)))
-      ∙ passes-alike (waysOf (x .rule .exit) (x .at) (instr x .a) (arg x 0 .mask))
+      (λ i. passesAll ws ch v l (waysOf (exit-is i) (a .at i) (a .ins i .a) (condition-is i .mask)))
+      ∙ passes-alike (waysOf (exitFrom x) (x .at) (instr x .a) (arg x 0 .mask))

@@ -1,7 +1,7 @@
-// The ways that leave an instruction, and the local that is narrowed on each.
+// How control leaves an instruction: its ways, and the local that is narrowed on each.
 ghost use mathlib.Core.Path.{_≡_};
 ghost use Prim.Native.Nat.{_<_, _^_};
-ghost use Rattle.definition.specs.Ways.{branch, waysOf, receiverOn, narrowing};
+ghost use Rattle.definition.specs.Ways.{exitOf, branch, waysOf, receiverOn, narrowing};
 ghost use Rattle.ways.specs.Ways.{targets, receiver};
 use cells::Cell;
 use description::Instr;
@@ -21,6 +21,22 @@ pub enum Ways {
 pub enum Narrows {
     Nothing,
     Local(u16),
+}
+
+// How control leaves the instruction at: a test whose target is the next one decides nothing, so it goes on.
+pub fn exit_of(exit: Exit, i: Instr, at: usize) -> Exit
+    requires { ⌜ at < 2 ^ 32 ⌝ }
+    ensures { λ r. ⌜ r ≡ exitOf exit at (i .a) ⌝ }
+{
+    let to_next = (i.a as usize) == at + 1;
+    match exit {
+        Exit::Next => Exit::Next,
+        Exit::Stops => Exit::Stops,
+        Exit::Jumps => Exit::Jumps,
+        Exit::Ifs => if to_next { Exit::Next } else { Exit::Ifs },
+        Exit::Breaks => if to_next { Exit::Next } else { Exit::Breaks },
+        Exit::Restarts => Exit::Restarts,
+    }
 }
 
 // A test with this condition: it jumps to target where the condition is jumps, goes on where it is stays, else both.

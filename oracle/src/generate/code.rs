@@ -84,7 +84,7 @@ impl Code<'_> {
             self.put(POP_N, count as u8, 0, [0; 3], &[]);
         }
     }
-    fn here(&self) -> u32 {
+    pub fn here(&self) -> u32 {
         self.code.len() as u32
     }
     fn aim(&mut self, at: usize) {
@@ -98,6 +98,9 @@ impl Code<'_> {
         if streams {
             self.put(STREAM, 0, 0, [0; 3], &[]);
         }
+        if self.w.next_branches && self.r.often(800) {
+            self.next_branch(size.depth);
+        }
         self.block(size.statements, size.depth);
         if streams && self.r.often(850) {
             if self.r.often(100) {
@@ -107,11 +110,12 @@ impl Code<'_> {
             self.put(RESET, taken, 0, [0; 3], &[]);
             return;
         }
-        match self.r.weighted(&[90, 3, 3, 4]) {
+        match self.r.weighted(&[90, 3, 3, 4, if self.w.next_branches { 12 } else { 0 }]) {
             0 => self.give_back(result, 2),
             1 => self.put(TRAP, 0, 0, [0; 3], &[]),
             2 => {}
-            _ => self.back(),
+            3 => self.back(),
+            _ => self.next_of_last(),
         }
     }
     fn give_back(&mut self, result: u16, depth: usize) {
@@ -159,6 +163,7 @@ impl Code<'_> {
             3,
             if nests { 2 } else { 0 },
             if nests && !self.locals.is_empty() { 9 } else { 0 },
+            if self.w.next_branches { 30 } else { 0 },
         ];
         match self.r.weighted(&weights) {
             0 => self.store(),
@@ -187,9 +192,10 @@ impl Code<'_> {
                 }
             }
             9 => return self.leave(),
-            10 => self.odd_branch(depth),
+            10 => self.known_branch(depth),
             11 => self.rare(),
             12 => return self.finish(),
+            14 => self.next_branch(depth),
             _ => {
                 let kinds = self.r.bit(PLAIN) | self.r.bit(PLAIN);
                 let at = self.r.below(self.locals.len());
@@ -237,7 +243,7 @@ impl Code<'_> {
     }
     /// `If` on the top of the stack; both arms begin by dropping what an
     /// inspection left, or neither does and the end drops it.
-    fn test(&mut self, depth: usize, under: usize) {
+    pub fn test(&mut self, depth: usize, under: usize) {
         let at = self.code.len();
         self.put(IF, 1, 0, [0; 3], &[]);
         let early = self.r.often(600);
@@ -246,7 +252,9 @@ impl Code<'_> {
         if early {
             self.drop_top(under);
         }
-        self.block(2, depth - 1);
+        if !self.w.next_branches || self.r.often(700) {
+            self.block(2, depth - 1);
+        }
         let after = std::mem::replace(&mut self.locals, before.clone());
         if early && under > 0 || self.r.often(450) {
             let skip = self.code.len();
@@ -259,7 +267,7 @@ impl Code<'_> {
             self.block(2, depth - 1);
             self.aim(skip);
         } else {
-            self.aim(at);
+            self.end_arm(at);
         }
         for (local, other) in self.locals.iter_mut().zip(after) {
             *local = local.join(other);
@@ -271,6 +279,14 @@ impl Code<'_> {
         if !early {
             self.drop_top(under);
         }
+    }
+    /// The test's way past its arm goes on here. An empty arm makes it a branch to
+    /// the very next instruction: where none is to be made, something comes in.
+    fn end_arm(&mut self, at: usize) {
+        if at + 1 == self.code.len() && !self.w.next_branches {
+            self.put(POP_N, 0, 0, [0; 3], &[]);
+        }
+        self.aim(at);
     }
     /// One kind on one way and another on the other, into a local. Answers a
     /// kind of the way that likely arrives first.
@@ -304,7 +320,7 @@ impl Code<'_> {
     /// Reads a local and consumes it as one kind: a guard, where the way of
     /// that kind arrives first. A number is now and then read twice, for an
     /// instruction of two operands: two guards.
-    fn consume(&mut self, at: usize, kind: u16) {
+    pub fn consume(&mut self, at: usize, kind: u16) {
         self.get_local(at);
         let base = self.stack.len() - 1;
         if kind & NUMERIC != 0 && self.r.often(400) {
@@ -358,22 +374,14 @@ impl Code<'_> {
         };
         self.put(op, taken, 1, abc, &[]);
     }
-    /// A branch on a constant, or to the very next instruction.
-    fn odd_branch(&mut self, depth: usize) {
-        if self.r.often(500) {
-            let a = self.r.pick(&[1, 2]);
-            self.put(PUSH_IMMEDIATE, 0, 1, [a, 0, 0], &[likely(if a == 1 { TRUE } else { FALSE })]);
-            self.test(depth, 0);
-            return;
-        }
-        let under = if !self.locals.is_empty() && self.r.often(600) { self.inspection() } else { 0 };
-        if under == 0 {
-            self.truth(BOOL, 1);
-        }
-        let a = self.here() + 1;
-        let op = self.r.pick(&[IF, BREAK_IF]);
-        self.put(op, 1, 0, [a, 0, 0], &[]);
-        self.drop_top(under);
+    fn known_branch(&mut self, depth: usize) {
+        self.known();
+        self.test(depth, 0);
+    }
+    /// A condition that is known.
+    pub fn known(&mut self) {
+        let a = self.r.pick(&[1, 2]);
+        self.put(PUSH_IMMEDIATE, 0, 1, [a, 0, 0], &[likely(if a == 1 { TRUE } else { FALSE })]);
     }
 
     fn turn(&mut self, depth: usize) {
@@ -390,6 +398,9 @@ impl Code<'_> {
         if self.r.often(500) {
             self.truth(BOOL, 1);
             self.break_if();
+        }
+        if self.w.next_branches && self.r.often(300) {
+            self.next_of_last();
         }
         self.put(END_LOOP, 0, 0, [start as u32 + 1, 0, 0], &[]);
         let (_, breaks) = self.loops.pop().expect("a loop");
@@ -426,8 +437,21 @@ impl Code<'_> {
         true
     }
 
-    /// Inspects a local; answers how many values lie under the test.
+    /// Inspects a local that may be an enum, mostly; answers how many values lie
+    /// under the test.
     fn inspection(&mut self) -> usize {
+        let at = self.receiver();
+        self.inspect_local(at);
+        1
+    }
+    /// A local that may be an enum, mostly; or, for a way that is cut, one that has no
+    /// kind in the first round.
+    pub fn receiver(&mut self) -> usize {
+        if self.r.often(300)
+            && let Some(at) = self.unset()
+        {
+            return at;
+        }
         let maybe: Vec<usize> =
             (0..self.locals.len()).filter(|at| self.locals[*at].mask & ENUM != 0).collect();
         let any = self.r.below(self.locals.len());
@@ -436,6 +460,10 @@ impl Code<'_> {
             let kinds = ENUM | self.r.bit(PLAIN);
             self.mix(at, kinds);
         }
+        at
+    }
+    /// Leaves the local and the test, plain or negated.
+    pub fn inspect_local(&mut self, at: usize) {
         self.get_local(at);
         let held = self.locals[at];
         let truth = likely(if held.mask & ENUM == 0 { FALSE } else { BOOL });
@@ -454,7 +482,14 @@ impl Code<'_> {
             let top = *self.stack.last().expect("a test");
             self.put(DUP, 1, 1, [0; 3], &[top]);
         }
-        1
+    }
+    /// Puts the test into a local, drops the receiver under it and gets the test back.
+    pub fn test_alone(&mut self, under: usize) {
+        let at = self.r.below(self.locals.len());
+        self.put(SET_LOCAL, 1, 0, [at as u32, 0, 0], &[]);
+        self.locals[at] = likely(BOOL);
+        self.drop_top(under);
+        self.get_local(at);
     }
     fn inspect(&mut self, depth: usize) {
         if self.r.often(150) {
@@ -472,11 +507,7 @@ impl Code<'_> {
         let under = self.inspection();
         if !self.loops.is_empty() && self.r.often(250) {
             // Out of the loop with the receiver put away first.
-            let at = self.r.below(self.locals.len());
-            self.put(SET_LOCAL, 1, 0, [at as u32, 0, 0], &[]);
-            self.locals[at] = likely(BOOL);
-            self.drop_top(under);
-            self.get_local(at);
+            self.test_alone(under);
             let (height, _) = self.loops.last().expect("a loop");
             if self.stack.len() == height + 1 {
                 self.break_if();

@@ -8,7 +8,7 @@ use crate::run::Outcome;
 #[derive(Debug, Clone)]
 pub struct Coverage {
     pub descriptions: u64,
-    /// Those that types.rs does not judge; no other count has them.
+    /// Those that another text judges; no other count has them.
     pub left_out: u64,
     /// Outcomes by refusal number, 0 for accepted.
     pub outcomes: [u64; 19],
@@ -45,9 +45,9 @@ fn count(counts: &mut [u64; 66], set: u128) {
 }
 
 impl Coverage {
-    /// Whether what types.rs says of these bytes is to be used; else they are
+    /// Whether what the text says of these bytes is to be used; else they are
     /// counted as left out. Bytes that are no description always are: the form
-    /// check refuses them, and types.rs never sees them.
+    /// check refuses them, and no text sees them.
     pub fn includes(&mut self, bytes: &[u8], judged: impl Fn(&Description) -> bool) -> bool {
         let included = Description::decode(bytes).is_none_or(|d| judged(&d));
         self.left_out += u64::from(!included);

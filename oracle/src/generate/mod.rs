@@ -4,13 +4,15 @@
 mod code;
 pub mod coverage;
 mod damage;
+mod next;
 mod outside;
 pub mod random;
 mod soup;
 mod value;
 mod world;
 
-use crate::model::{Description, USUAL_HANDLE};
+use crate::judged::Text;
+use crate::model::Description;
 use crate::run::{self, Measured, Outcome};
 use code::Size;
 use random::Random;
@@ -38,13 +40,14 @@ pub fn generate(seed: u64) -> Generated {
 
 /// The description of a seed, and its ample run.
 pub fn with_measure(seed: u64) -> (Generated, Measured) {
-    with_handle(seed, USUAL_HANDLE)
+    made_for(seed, Text::TYPES)
 }
 
-/// The same with handles of so many bytes, damage apart.
-pub fn with_handle(seed: u64, handle: u8) -> (Generated, Measured) {
+/// The same, made so that this text judges nearly all of them: what damage and
+/// chance make is left as it is.
+pub fn made_for(seed: u64, text: Text) -> (Generated, Measured) {
     let mut r = Random::new(seed);
-    let bytes = description(&mut r, handle);
+    let bytes = description(&mut r, text);
     let measured = ample(&bytes);
     let (words, report_len, limit) = bounds(&mut r, &measured);
     (Generated { bytes, words, report_len, limit }, measured)
@@ -55,7 +58,7 @@ fn ample(bytes: &[u8]) -> Measured {
     run::measure(bytes, least + AMPLE_QUEUE, usize::MAX, AMPLE_STEPS)
 }
 
-fn description(r: &mut Random, handle: u8) -> Vec<u8> {
+fn description(r: &mut Random, text: Text) -> Vec<u8> {
     let how = r.weighted(&[630, 130, 110, 80, 40, 9, 1]);
     let chunks = match how {
         6 => r.pick(&[1, 1, 20, 64]),
@@ -65,7 +68,7 @@ fn description(r: &mut Random, handle: u8) -> Vec<u8> {
         2 | 6 => 0,
         _ => r.pick(&[0, 0, 0, 4, 12, 60]),
     };
-    let mut w = world::world(r, handle, chunks, reckless);
+    let mut w = world::world(r, text, chunks, reckless);
     if how == 5 {
         let at = r.below(chunks);
         w.d.chunks[at].locals = r.pick(&[64, 255, 256]);

@@ -143,4 +143,21 @@ impl Code<'_> {
             self.value(UNKNOWN, 0);
         }
     }
+
+    /// A local takes what a slot without initializer holds: it has no kind in the first
+    /// round, and then that of a write. None where every slot has an initializer.
+    pub fn unset(&mut self) -> Option<usize> {
+        let w = self.w;
+        let first = w.d.shared.len() + w.d.initializers.len();
+        let count = w.slots.len().checked_sub(first).filter(|count| *count > 0)?;
+        let slot = first + self.r.below(count);
+        let at = self.r.below(self.locals.len());
+        let held = w.slots[slot];
+        self.value(held.mask, 1);
+        self.put(SET_DATA, 1, 0, [slot as u32, 0, 0], &[]);
+        self.put(GET_DATA, 0, 1, [slot as u32, 0, 0], &[held]);
+        self.put(SET_LOCAL, 1, 0, [at as u32, 0, 0], &[]);
+        self.locals[at] = held;
+        Some(at)
+    }
 }

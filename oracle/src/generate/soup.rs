@@ -45,6 +45,15 @@ pub fn operands(r: &mut Random, w: &World, locals: usize, length: usize, op: u8)
     })
 }
 
+/// How far a jump goes. A test goes to the very next instruction mostly or never.
+fn ahead_by(r: &mut Random, w: &World, op: u8) -> usize {
+    match op {
+        IF | BREAK_IF if w.next_branches => r.pick(&[1, 1, 1, 2, 5]),
+        IF | BREAK_IF => r.between(2, 6),
+        _ => r.between(1, 6),
+    }
+}
+
 pub fn chunk(r: &mut Random, w: &World, number: usize, length: usize) -> Chunk {
     let mut chunk = w.d.chunks[number].clone();
     let locals = usize::from(chunk.locals);
@@ -67,7 +76,9 @@ pub fn chunk(r: &mut Random, w: &World, number: usize, length: usize) -> Chunk {
             deepest = deepest.max(height);
             continue;
         }
-        let op = if height < 3 && r.often(550) {
+        let op = if w.next_branches && height > 0 && r.often(200) {
+            r.pick(&[IF, BREAK_IF])
+        } else if height < 3 && r.often(550) {
             r.pick(&[CONST, PUSH_IMMEDIATE, GET_LOCAL, GET_LOCAL, GET_DATA, CALL_EXTERNAL_NATIVE])
         } else {
             r.below(66) as u8
@@ -114,7 +125,7 @@ pub fn chunk(r: &mut Random, w: &World, number: usize, length: usize) -> Chunk {
             if !same.is_empty() && r.often(250) {
                 abc[0] = r.pick(&same) as u32;
             } else {
-                let to = here + r.between(1, 6);
+                let to = here + ahead_by(r, w, op);
                 abc[0] = to as u32;
                 let wanted = *ahead.entry(to).or_insert(after);
                 if wanted != after && !r.often(30) {

@@ -2,6 +2,7 @@
 //! natives, dialogue.
 
 use super::random::Random;
+use crate::judged::Text;
 use crate::model::*;
 
 pub const UNIT: u16 = 1;
@@ -94,6 +95,8 @@ pub struct World {
     pub d: Description,
     /// Thousandths of choices that look at no kind.
     pub reckless: usize,
+    /// Branches to the very next instruction are made: many of them, or none.
+    pub next_branches: bool,
     pub sizes: Sizes,
     pub slots: Vec<Likely>,
     pub placed: Vec<bool>,
@@ -249,18 +252,19 @@ fn slots(r: &mut Random, w: &mut World) {
     }
 }
 
-pub fn world(r: &mut Random, handle: u8, chunks: usize, reckless: usize) -> World {
+pub fn world(r: &mut Random, text: Text, chunks: usize, reckless: usize) -> World {
     let float_bits_log2 = r.pick(&[6, 6, 6, 6, 5, 5, 3, 0, 9, 31]);
     let mut w = World {
         d: Description::default(),
         reckless,
-        sizes: Sizes { float: 1u32 << float_bits_log2 >> 3, handle: u32::from(handle) },
+        next_branches: text.next_branch,
+        sizes: Sizes { float: 1u32 << float_bits_log2 >> 3, handle: u32::from(text.handle()) },
         slots: Vec::new(),
         placed: Vec::new(),
         dialogue: None,
     };
     w.d.header.float_bits_log2 = float_bits_log2;
-    w.d.header.handle = handle;
+    w.d.header.handle = text.handle();
     w.d.header.owns_bodies = r.below(2) as u8;
     w.d.header.chunks = chunks as u16;
     w.d.header.signatures = if r.often(30) { r.between(1, chunks) } else { chunks } as u16;

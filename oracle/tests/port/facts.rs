@@ -2,8 +2,10 @@
 //! to see that the comparison notices.
 
 use oracle::index::{self, ENTRY, Entry};
-use oracle::model::{Description, SHORT_HANDLE, USUAL_HANDLE, at16, split_field};
+use oracle::judged::{Text, next_branches, text_of};
+use oracle::model::{Description, at16, split_field};
 use oracle::report::GUARDS_AT;
+use oracle::run::Outcome;
 
 pub struct Refusal {
     pub number: u8,
@@ -45,22 +47,37 @@ fn turn_guards(report: &mut [u8]) {
     }
 }
 
-/// The description with handles of eight bytes where it has four.
-fn with_usual_handles(bytes: &[u8]) -> Vec<u8> {
-    match Description::decode(bytes) {
-        Some(mut d) if d.header.handle == SHORT_HANDLE => {
-            d.header.handle = USUAL_HANDLE;
-            d.encode()
-        }
-        _ => bytes.to_vec(),
+/// What the text that judges the description answers, or one with fewer changes.
+fn outcome(description: &[u8], words: u64, report_len: usize, limit: u32) -> Outcome {
+    let mut text = Description::decode(description).map_or(Text::TYPES, |d| text_of(&d));
+    text.handle_4 &= !wrong("handle of eight");
+    text.next_branch &= !wrong("narrowed to the next");
+    let mut outcome = oracle::run::check_by(text, description, words, report_len, limit);
+    if wrong("next not listed")
+        && let Outcome::Accepted { report, .. } = &mut outcome
+        && let Some(d) = Description::decode(description)
+    {
+        *report = without_next_branches(&d, report);
     }
+    outcome
+}
+
+/// The report without the known branches that go to the next instruction.
+fn without_next_branches(d: &Description, report: &[u8]) -> Vec<u8> {
+    let (mut kept, mut rest) = (Vec::new(), report);
+    while let Some((tag, contents, after)) = split_field(rest) {
+        let place = |at: usize| usize::from(at16(contents, at));
+        if tag != 21 || next_branches(d).all(|branch| branch != (place(0), place(2))) {
+            kept.extend_from_slice(&rest[..rest.len() - after.len()]);
+        }
+        rest = after;
+    }
+    kept
 }
 
 pub fn check(description: &[u8], workspace: &mut [u32], report: &mut [u8], limit: u32) -> Answer {
-    let usual = wrong("handle of eight").then(|| with_usual_handles(description));
-    let description = usual.as_deref().unwrap_or(description);
-    match oracle::run::check(description, workspace.len() as u64, report.len(), limit) {
-        oracle::run::Outcome::Accepted { report: bytes, steps } => {
+    match outcome(description, workspace.len() as u64, report.len(), limit) {
+        Outcome::Accepted { report: bytes, steps } => {
             let length = bytes.len();
             report[..length].copy_from_slice(&bytes);
             workspace.fill(0);
@@ -82,7 +99,7 @@ pub fn check(description: &[u8], workspace: &mut [u32], report: &mut [u8], limit
             let length = length + usize::from(wrong("length"));
             Answer::Accepted { length, steps: steps + u32::from(wrong("steps")) }
         }
-        oracle::run::Outcome::Refused(r) => {
+        Outcome::Refused(r) => {
             if r.number > 5 || wrong("workspace cleared") {
                 workspace.fill(0);
             }
@@ -133,11 +150,11 @@ pub fn check_indexed(
     limit: u32,
 ) -> IndexedAnswer {
     match oracle::run::check(description, workspace.len() as u64, report.len(), limit) {
-        oracle::run::Outcome::Accepted { report: bytes, steps } => {
+        Outcome::Accepted { report: bytes, steps } => {
             workspace.fill(0);
             deliver(&bytes, steps, workspace, report, index)
         }
-        oracle::run::Outcome::Refused(r) => {
+        Outcome::Refused(r) => {
             if r.number > 5 {
                 workspace.fill(0);
             }
