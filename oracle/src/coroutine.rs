@@ -30,6 +30,7 @@ pub(crate) mod dialogue {
 }
 
 check_of!(verbatim, types);
+pub(crate) use types::operand_kind;
 
 /// The time of `check` alone, and whether it accepts.
 pub(crate) fn timed(

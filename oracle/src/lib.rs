@@ -50,6 +50,7 @@ pub mod listing;
 pub mod lookup;
 pub mod model;
 pub mod module;
+pub mod operands;
 pub mod ops;
 pub mod pool;
 pub mod report;
@@ -71,8 +72,7 @@ pub(crate) enum LowerError {
     Probe { number: u8, chunk: usize, instruction: usize },
 }
 
-/// What `operand_kind` of types.rs answers. `check` never asks.
-#[allow(dead_code)]
+/// What `operand_kind` of types.rs answers. `check` never asks; src/operands.rs does.
 #[derive(Debug, Clone, Copy, PartialEq, Eq)]
 pub(crate) enum OperandKind {
     Float,

@@ -15,7 +15,8 @@ oracle text FILE.bin
 oracle check FILE.(txt|bin) [words] [report_len] [limit]
 oracle case NAME FILE [words] [limit]   the call as a case of the definition, in antt
 oracle generate [--handle-4] [--next-branch] SEED   the description of a seed, as text
-oracle coverage COUNT [SEED]    generated descriptions: what they reach";
+oracle coverage COUNT [SEED]    generated descriptions: what they reach
+oracle operands                 the class of every mask, as types.rs answers it";
 
 fn stop(message: &str) -> ! {
     eprintln!("{message}");
@@ -58,6 +59,7 @@ fn main() {
             let (count, seed) = (number(args.get(1), 0), number(args.get(2), 1));
             print!("{}", oracle::generate::coverage::over(count, seed, judged).table());
         }
+        ["operands"] => print!("{}", oracle::operands::listed()),
         _ => stop(USAGE),
     }
 }

@@ -1,1 +1,3 @@
 pub mod Both
+pub mod Single
+pub mod Counted

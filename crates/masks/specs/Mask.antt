@@ -1,4 +1,5 @@
--- Masks of value kinds, as types.rs has them: `scalar`, `body`, `kind`, `operand_kind`, `constant`, and the mask of an immediate.
+-- Masks of value kinds, as types.rs has them: `scalar`, `body`, `kind`, `operand_kind`, `constant`, and the mask of an immediate. `operand_kind` is
+-- written as document 02, Five, has it: `operandKind`, a list of cases. The text of types.rs stands beside it as `operandCounted`.
 use Prim.Native.Nat.{ℕ, _^_, _*_}
 use mathlib.Core.Bool.{Bool, cond, not, _&&_}
 use lib.Bits.{bitOr, bitAnd}
@@ -7,7 +8,7 @@ use lib.Count.{ones}
 use Rattle.masks.specs.declared.Mask.{Mask}
 use Rattle.masks.specs.declared.OperandKind.{OperandKind}
 use Rattle.masks.specs.declared.OperandKind.the-variants.{Int, Fixed, Float, Unknown}
-use Rattle.masks.specs.Names.{UNIT, FALSE, BYTE, WORD, FIXED, FLOAT, TEXT, TUPLE, ARRAY, STRUCT, ENUM, TRUE, BOOL, BODY, UNKNOWN, FOLDED}
+use Rattle.masks.specs.Names.{UNIT, FALSE, BYTE, WORD, FIXED, FLOAT, TEXT, OPAQUE, TUPLE, ARRAY, STRUCT, ENUM, TRUE, BOOL, BODY, UNKNOWN, FOLDED}
 pub use Rattle.masks.specs.Names.{of}
 
 -- the mask of a scalar kind: kind 1 is both Bools, a kind past 7 may be anything
@@ -42,10 +43,35 @@ same m n = eqb (m .bits) (n .bits)
 unfoldable pub oneKind : Mask → Bool
 oneKind m = eqb (ones (kind m .bits)) 1
 
+-- the class of an operand with the folded mask k: a line for each single bit. 4096 has none, since folding takes it away. 8192, 16384 and 32768
+-- are no kinds and stand above UNKNOWN; they are here because a u16 has room for them and types.rs counts a lone one as one kind
+unfoldable pub operandCases : Mask → OperandKind
+operandCases k =
+    cond (same k UNIT) Int
+    (cond (same k FALSE) Int
+    (cond (same k BYTE) Int
+    (cond (same k WORD) Int
+    (cond (same k FIXED) Fixed
+    (cond (same k FLOAT) Float
+    (cond (same k TEXT) Int
+    (cond (same k OPAQUE) Int
+    (cond (same k TUPLE) Int
+    (cond (same k ARRAY) Int
+    (cond (same k STRUCT) Int
+    (cond (same k ENUM) Int
+    (cond (same k (of 8192)) Int
+    (cond (same k (of 16384)) Int
+    (cond (same k (of 32768)) Int
+    Unknown))))))))))))))
+
 unfoldable pub operandKind : Mask → OperandKind
-operandKind m =
-    cond (eqb (kind m .bits) (FLOAT .bits)) Float
-    (cond (eqb (kind m .bits) (FIXED .bits)) Fixed
+operandKind m = operandCases (kind m)
+
+-- `operand_kind` as types.rs has it, by the count of ones
+unfoldable pub operandCounted : Mask → OperandKind
+operandCounted m =
+    cond (same (kind m) FLOAT) Float
+    (cond (same (kind m) FIXED) Fixed
     (cond (oneKind m) Int Unknown))
 
 -- the mask of a constant, by its place in ConstValue

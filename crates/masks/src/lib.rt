@@ -146,21 +146,32 @@ impl Mask {
         u16::count_ones(folded.bits) == 1
     }
 
-    // No caller here: document 01 asks for it, and a later request for another form of it. As in types.rs it serves later passes.
+    // The class of an operand, by its mask with TRUE folded into FALSE: a line for each single bit. 4096 has none, since folding takes it
+    // away. Two bits or more leave the kind open, and no bit is no kind yet: unknown. No caller here: as in types.rs it serves later passes.
     pub fn operand_kind(self) -> OperandKind
         ensures { λ r. ⌜ r ≡ operandKind self ⌝ }
     {
         let folded = self.kind();
-        if folded.bits == 32 {
-            return OperandKind::Float;
+        let bits = folded.bits;
+        match bits {
+            1 => OperandKind::Int, // UNIT
+            2 => OperandKind::Int, // FALSE, TRUE or both: BOOL
+            4 => OperandKind::Int, // BYTE
+            8 => OperandKind::Int, // WORD
+            16 => OperandKind::Fixed, // FIXED
+            32 => OperandKind::Float, // FLOAT
+            64 => OperandKind::Int, // TEXT
+            128 => OperandKind::Int, // OPAQUE
+            256 => OperandKind::Int, // TUPLE
+            512 => OperandKind::Int, // ARRAY
+            1024 => OperandKind::Int, // STRUCT
+            2048 => OperandKind::Int, // ENUM
+            // No kind has these bits, which lie above UNKNOWN. But a u16 can hold one of them alone, and then the count of ones said Int.
+            8192 => OperandKind::Int,
+            16384 => OperandKind::Int,
+            32768 => OperandKind::Int,
+            _ => OperandKind::Unknown,
         }
-        if folded.bits == 16 {
-            return OperandKind::Fixed;
-        }
-        if u16::count_ones(folded.bits) == 1 {
-            return OperandKind::Int;
-        }
-        OperandKind::Unknown
     }
 
     // The mask of a constant, by its place in ConstValue; truth is the Bool's value.

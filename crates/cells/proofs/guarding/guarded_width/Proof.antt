@@ -1,7 +1,7 @@
 -- `cells::guarding::guarded_width` meets its contract.
 use native.Mathlib.Omega.{arith}
 use lib.Count.{trailing-le}
-use Rattle.cells.proofs.Single.{body-index}
+use Rattle.cells.proofs.BodyIndex.{body-index}
 use Rattle.cells.specs.Cell.{guardedWidth}
 use borrow.Author.Needs.{needs}
 use Rattle.cells.proofs.guarding.guarded_width.Statement.{statement}

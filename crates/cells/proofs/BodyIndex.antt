@@ -1,36 +1,17 @@
--- A mask of one kind is a power of two, and its trailing zeros say which; if the kind is a body's, they are 8 to 11.
-use Prim.Native.Nat.{ℕ, zero, suc, _+_, _-_, _/_, _%_, _^_, _≤_, _<_}
+-- The trailing zeros of a mask of one kind say which kind it is; if it is a body's, they are 8 to 11.
+use Prim.Native.Nat.{ℕ, _+_, _-_, _^_, _≤_, _<_}
 use mathlib.Core.Path.{_≡_, refl, sym, ap, _∙_}
 use mathlib.Core.Bool.{Bool, true, false, _&&_}
-use native.Mathlib.Nat.{pow-suc}
 use native.Mathlib.Omega.{arith}
-use lib.Arith.{bin-ind}
 use lib.Bits.{bitAnd, and-shifted, and-comm}
-use lib.Count.{ones, ones-step, ones-le, under, trailingZeros}
+use lib.Count.{ones, trailingZeros}
 use lib.Dec.{eqb, ltb}
 use lib.Pow.{pow-lt, pow-add}
 use borrow.Author.Tests.{ltb-true, ltb-false, eqb-true, eqb-false, not-true}
 use Rattle.masks.proofs.Both.{both}
+use Rattle.masks.proofs.Single.{one-set}
 use Rattle.masks.specs.declared.Mask.{Mask}
 use Rattle.masks.specs.Mask.{of, kind, oneKind, has}
-
-abbrev NoneSet : ℕ → Type 0
-NoneSet n = ones n ≡ 0 → n ≡ 0
-
-none-set : (n : ℕ) → ones n ≡ 0 → n ≡ 0
-none-set =
-    bin-ind NoneSet (λ h. refl)
-    (λ n ih h. let half : n / 2 ≡ 0 = ih (omega (arith, ones-step n)) in omega (arith, ones-step n))
-
--- one set bit, below w: the number is 2 to the count of its trailing zeros
-pub one-set : (w n : ℕ) → n < 2 ^ w → ones n ≡ 1 → n ≡ 2 ^ trailingZeros w n
-unfolding trailingZeros
-one-set zero n h e = omega (arith, ones-le 0 n h)
-one-set (suc w) n h e = go (λ half. one-set w (n / 2) (omega (arith, pow-suc 2 w)) half) (n % 2) refl
-  where
-    go : (ones (n / 2) ≡ 1 → n / 2 ≡ 2 ^ trailingZeros w (n / 2)) → (d : ℕ) → n % 2 ≡ d → n ≡ 2 ^ under (n % 2) (trailingZeros w (n / 2))
-    go ih zero p = let r = ih (omega (arith, ones-step n)) in rw p (omega (arith, pow-suc 2 (trailingZeros w (n / 2))))
-    go ih (suc d) p = let z : n / 2 ≡ 0 = none-set (n / 2) (omega (arith, ones-step n)) in rw p (omega arith)
 
 -- a power of two that has a bit of 3840 is one of bits 8 to 11
 pub body-bit : (t : ℕ) → (bitAnd (2 ^ t) 3840 ≡ 0 → ⊥) → (8 ≤ t) × (t < 12)
