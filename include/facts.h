@@ -6,7 +6,7 @@
  *
  * A pointer must not be null, also where its length is 0, and must be aligned
  * for its type. What is written (workspace, report, index, answer, words,
- * part) must overlap nothing else of the same call.
+ * sizes, part) must overlap nothing else of the same call.
  */
 #ifndef FACTS_H
 #define FACTS_H
@@ -29,8 +29,9 @@ extern "C" {
  *       more than its callee's parameters, or a Yield without site
  *    4  taken or given unfit for the instruction
  * The host, who lends the memory and sets the limit:
- *    5  workspace too small: facts_words says how many words are the least
- *    6  report too long for its buffer
+ *    5  workspace too small: facts_sizes says how many words are the least
+ *    6  report too long for its buffer: with as many bytes as facts_sizes
+ *       says it never is
  *    7  an entry due with the step limit used up
  *    8  queue full: a larger workspace gives it room
  * The script's author:
@@ -91,9 +92,10 @@ enum {
  *              is the size of an opaque handle, 4 or 8: a body packs a handle
  *              with so many bytes
  * workspace    words to work in, whatever they hold: at least as many as
- *              facts_words says; each one more is room for one more entry in
+ *              facts_sizes says; each one more is room for one more entry in
  *              the queue. As it was after 1 to 5, zeros after all else
- * report       the buffer for the report
+ * report       the buffer for the report; as long as facts_sizes says, it is
+ *              long enough
  * limit        the most steps to take
  * answer       five numbers, all written on every call
  */
@@ -107,6 +109,21 @@ uint32_t facts_check(const uint8_t *description, size_t description_bytes,
  */
 uint32_t facts_words(const uint8_t *description, size_t description_bytes,
                      uint64_t words[1]);
+
+/* Where the sizes of a description stand. */
+enum {
+    FACTS_WORDS,        /* the least workspace, in words */
+    FACTS_REPORT_BYTES, /* no report of the description has more bytes */
+    FACTS_SIZES         /* how many sizes there are */
+};
+
+/* What to lend for a description. Returns 0 where it has good form; else 1 to
+ * 4, and both sizes are 0. The second is a bound: the highest stack, all
+ * locals and all guards that each reachable instruction can have. A report is
+ * often shorter, never longer, with an index or without.
+ */
+uint32_t facts_sizes(const uint8_t *description, size_t description_bytes,
+                     uint64_t sizes[FACTS_SIZES]);
 
 /* The record of an instruction in a report, or in any bytes. Returns 1 where
  * there is one: part[0] is the place of its first byte, its tag, and part[1]

@@ -5,7 +5,7 @@
 #include <stdio.h>
 #include <stdlib.h>
 
-enum { LARGEST = 1048576, REPORT = 1 << 20, LIMIT = 1000000, CELL = 49, HEAD = 3 };
+enum { LARGEST = 1048576, LIMIT = 1000000, CELL = 49, HEAD = 3 };
 
 static unsigned u16_at(const uint8_t *at) { return at[0] | (unsigned)at[1] << 8; }
 
@@ -104,12 +104,13 @@ static void print_accepted(const uint32_t *answer, const uint8_t *report) {
     print_record(report, answer[FACTS_LENGTH], 0, 9);
 }
 
-/* Analyses the description once more, with an index, and looks records up through it. */
+/* Analyses the description once more, with an index, and looks records up through it. An index has fewer bytes than
+ * its report. */
 static void analyse_indexed(const uint8_t *description, size_t length, uint32_t *workspace, size_t words,
-                            uint8_t *report) {
+                            uint8_t *report, size_t most) {
     uint32_t answer[FACTS_INDEXED_ANSWER];
-    uint8_t *index = lend(REPORT, 1);
-    if (facts_check_indexed(description, length, workspace, words, report, REPORT, index, REPORT, LIMIT, answer) == 0) {
+    uint8_t *index = lend(most, 1);
+    if (facts_check_indexed(description, length, workspace, words, report, most, index, most, LIMIT, answer) == 0) {
         size_t report_length = answer[FACTS_LENGTH], index_length = answer[FACTS_INDEX_LENGTH];
         print_index(index, index_length);
         print_sought("the index", report, report_length, index, index_length, 0, 2);
@@ -122,28 +123,33 @@ static void analyse_indexed(const uint8_t *description, size_t length, uint32_t 
 }
 
 /* Analyses the description, and prints what comes of it. Returns the status to end with. */
-static int analyse(const uint8_t *description, size_t length, uint8_t *report) {
-    uint64_t least[1];
+static int analyse(const uint8_t *description, size_t length) {
+    uint64_t sizes[FACTS_SIZES];
     uint32_t answer[FACTS_ANSWER];
-    uint32_t number = facts_words(description, length, least);
+    uint32_t number = facts_sizes(description, length, sizes);
     if (number != 0) {
         printf("no good form: %u\n", (unsigned)number);
         return 1;
     }
     /* Room for some more entries in the queue than the least. */
-    size_t words = least[0] + 1000;
+    size_t words = sizes[FACTS_WORDS] + 1000;
     uint32_t *workspace = lend(words, sizeof *workspace);
-    printf("%u bytes, least workspace %u words\n", (unsigned)length, (unsigned)least[0]);
+    /* No report of this description is longer. */
+    size_t most = sizes[FACTS_REPORT_BYTES];
+    uint8_t *report = lend(most, 1);
+    printf("%u bytes, least workspace %u words, at most %u bytes of report\n", (unsigned)length,
+           (unsigned)sizes[FACTS_WORDS], (unsigned)most);
 
-    number = facts_check(description, length, workspace, words, report, REPORT, LIMIT, answer);
+    number = facts_check(description, length, workspace, words, report, most, LIMIT, answer);
     if (number == 0) {
         print_accepted(answer, report);
-        analyse_indexed(description, length, workspace, words, report);
+        analyse_indexed(description, length, workspace, words, report, most);
         /* One step too few is refused. */
         uint32_t few = answer[FACTS_STEPS] - 1;
-        facts_check(description, length, workspace, words, report, REPORT, few, answer);
+        facts_check(description, length, workspace, words, report, most, few, answer);
     }
     print_refusal(answer);
+    free(report);
     free(workspace);
     return number != 0;
 }
@@ -155,9 +161,7 @@ int main(int count, char **args) {
     }
     size_t length;
     uint8_t *description = read_file(args[1], &length);
-    uint8_t *report = lend(REPORT, 1);
-    int status = analyse(description, length, report);
-    free(report);
+    int status = analyse(description, length);
     free(description);
     return status;
 }

@@ -4,7 +4,6 @@
 use genduvo::{Index, Refusal};
 use std::process::exit;
 
-const REPORT: usize = 1 << 20;
 const LIMIT: u32 = 1_000_000;
 const CELL: usize = 49;
 
@@ -61,9 +60,10 @@ fn print_sought(through: &str, index: Index, report: &[u8], chunk: u16, instruct
     println!("through {through}, record of {chunk} {instruction}: {sought}");
 }
 
-/// Analyses the description once more, with an index, and looks records up through it.
+/// Analyses the description once more, with an index, and looks records up through it. An index has fewer bytes than
+/// its report.
 fn print_indexed(description: &[u8], workspace: &mut [u32], report: &mut [u8]) -> Result<(), Refusal> {
-    let mut bytes = vec![0; REPORT];
+    let mut bytes = vec![0; report.len()];
     let accepted = genduvo::check_indexed(description, workspace, report, &mut bytes, LIMIT)?;
     let (report, bytes) = (&report[..accepted.length], &mut bytes[..accepted.index_length]);
     println!("index of {} bytes", bytes.len());
@@ -84,17 +84,22 @@ fn main() -> Result<(), Box<dyn std::error::Error>> {
         exit(2);
     };
     let description = std::fs::read(path)?;
-    let mut report = vec![0; REPORT];
-    let least = match genduvo::words(&description) {
-        Ok(words) => words,
+    let sizes = match genduvo::sizes(&description) {
+        Ok(sizes) => sizes,
         Err(reason) => {
             println!("no good form: {reason}");
             exit(1);
         }
     };
-    println!("{} bytes, least workspace {least} words", description.len());
-    // Room for some more entries in the queue than the least.
-    let mut workspace = vec![0; least + 1000];
+    println!(
+        "{} bytes, least workspace {} words, at most {} bytes of report",
+        description.len(),
+        sizes.words,
+        sizes.report
+    );
+    // Room for some more entries in the queue than the least; no report of this description is longer.
+    let mut workspace = vec![0; sizes.words + 1000];
+    let mut report = vec![0; sizes.report];
     let accepted = match genduvo::check(&description, &mut workspace, &mut report, LIMIT) {
         Ok(accepted) => accepted,
         Err(refusal) => {

@@ -7,11 +7,13 @@
 //! `compare --index COUNT [SEED]`: small reports with indexes, damaged, and COUNT
 //! of both at random, given to the lookup through an index (agreement.rs).
 //! With `cfg(linked)` the port is the static library; with `cfg(valgrind)` each
-//! buffer is an allocation of its own.
+//! buffer is an allocation of its own that counts as never written.
 #![allow(unexpected_cfgs)]
 
 mod agreement;
 mod indexed;
+#[cfg(valgrind)]
+mod memcheck;
 #[cfg(linked)]
 #[path = "linked.rs"]
 mod port;
@@ -31,7 +33,7 @@ use oracle::text;
 use std::process::exit;
 use std::sync::Mutex;
 use std::sync::atomic::{AtomicU64, Ordering};
-use trial::{Bounds, Buffers, differs, lookup_differs, odd_report, shown, words_differ};
+use trial::{Bounds, Buffers, differs, lookup_differs, odd_report, shown, sizes_differ};
 
 #[cfg(not(valgrind))]
 #[global_allocator]
@@ -166,9 +168,9 @@ fn work(shared: &Shared) -> Coverage {
             let (one, measured) = made_for(seed, shared.text);
             let expected = outcome(&one, &measured);
             let otherwise = shared.answered_otherwise(&one, &expected);
-            (one, expected, otherwise, measured.least_words)
+            (one, expected, otherwise, measured)
         });
-        let Ok((one, expected, otherwise, least)) = made else {
+        let Ok((one, expected, otherwise, measured)) = made else {
             shared.difference(|| println!("---- seed {seed}: the oracle itself stopped"));
             continue;
         };
@@ -176,8 +178,9 @@ fn work(shared: &Shared) -> Coverage {
             continue;
         }
         coverage.add(&one.bytes, &expected);
+        let least = measured.least_words.map(|words| words + 1).ok_or(expected.number());
         let found = compare(seed, &one, &expected, &mut buffers)
-            .or_else(|| words_differ(&one.bytes, least.map(|words| words + 1).ok_or(expected.number())));
+            .or_else(|| sizes_differ(&one.bytes, least, length(&measured.outcome)));
         shared.compared.fetch_add(1, Ordering::Relaxed);
         shared.indexes.fetch_add(u64::from(expected.number() == 0), Ordering::Relaxed);
         shared.otherwise.fetch_add(u64::from(otherwise), Ordering::Relaxed);
@@ -186,6 +189,11 @@ fn work(shared: &Shared) -> Coverage {
         }
     }
     coverage
+}
+
+/// The length of the report, if there is one.
+fn length(outcome: &Outcome) -> usize {
+    if let Outcome::Accepted { report, .. } = outcome { report.len() } else { 0 }
 }
 
 fn compare(seed: u64, one: &Generated, expected: &Outcome, buffers: &mut Buffers) -> Option<String> {

@@ -88,13 +88,26 @@ pub mod plain {
     }
 }
 
+/// The least workspace and the length that no report passes, or the refusal's number; facts_words answers the first of them.
+pub fn sizes(description: &[u8]) -> Result<(u64, u64), u8> {
+    let mut sizes = [7; 2];
+    // SAFETY: the slice is valid for the whole call, and `sizes` is borrowed for it alone.
+    let number = unsafe { raw::facts_sizes(description.as_ptr(), description.len(), &mut sizes) };
+    assert!(number == 0 || sizes == [0, 0], "the sizes of a refusal");
+    let answer = genduvo::sizes(description);
+    assert_eq!(answer.map_or_else(|reason| u32::from(reason.number()), |_| 0), number, "what facts_sizes returns");
+    let answer = answer.map(|sizes| (sizes.words as u64, sizes.report as u64)).map_err(|reason| reason.number());
+    assert_eq!(words(description), answer.map(|sizes| sizes.0), "facts_words and facts_sizes");
+    answer
+}
+
 /// The least workspace, or the refusal's number.
-pub fn words(description: &[u8]) -> Option<Result<u64, u8>> {
+fn words(description: &[u8]) -> Result<u64, u8> {
     let mut words = [7];
     // SAFETY: the slice is valid for the whole call, and `words` is borrowed for it alone.
     let number = unsafe { raw::facts_words(description.as_ptr(), description.len(), &mut words) };
     assert!(number == 0 || words[0] == 0, "the words of a refusal");
     let answer = genduvo::words(description);
     assert_eq!(answer.map_or_else(|reason| u32::from(reason.number()), |_| 0), number, "what facts_words returns");
-    Some(answer.map(|words| words as u64).map_err(|reason| reason.number()))
+    answer.map(|words| words as u64).map_err(|reason| reason.number())
 }

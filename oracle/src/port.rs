@@ -54,8 +54,11 @@ pub mod plain {
     pub use super::{lookup, lookup_indexed};
 }
 
-/// The least workspace, or the refusal's number; not asked of this port.
+/// The least workspace and the length that no report passes, or the refusal's number.
 #[allow(dead_code)]
-pub fn words(_description: &[u8]) -> Option<Result<u64, u8>> {
-    None
+pub fn sizes(description: &[u8]) -> Result<(u64, u64), u8> {
+    match facts::sizes(description) {
+        facts::Enough::Room { words, report } => Ok((words, report)),
+        facts::Enough::Refused(refusal) => Err(refusal.number),
+    }
 }

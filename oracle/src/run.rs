@@ -91,6 +91,9 @@ pub(crate) fn refused(number: u8, at: Option<(usize, usize)>, steps: u32) -> Out
     Outcome::Refused(Refusal { number, chunk, instruction, steps })
 }
 
+/// How the text of 13 begins; behind it stand the chunk's name and the instruction.
+const NOT_PROVEN: &str = "coroutine scalar types are not proven in ";
+
 /// The refusal that an error of types.rs stands for.
 fn class(error: &str) -> u8 {
     let classes = [
@@ -98,7 +101,7 @@ fn class(error: &str) -> u8 {
         ("coroutine parameter signature disagrees with its runtime type", 10),
         ("coroutine replies need a bounded body extent", 11),
         ("private initializer exceeds slot table", 12),
-        ("coroutine scalar types are not proven in ", 13),
+        (NOT_PROVEN, 13),
         ("coroutine indexed access crosses private scalar and body placements", 14),
         ("coroutine construction has no packed extent within its region reservation", 15),
         ("coroutine body extent does not prove an enum discriminant", 16),
@@ -106,6 +109,13 @@ fn class(error: &str) -> u8 {
     ];
     let found = classes.iter().find(|(text, _)| error.starts_with(text));
     found.unwrap_or_else(|| panic!("an error of types.rs: {error}")).1
+}
+
+/// Chunk and instruction that the text of 13 names; the name of a chunk is its number (`module`).
+pub fn not_proven_at(error: &str) -> Option<(usize, usize)> {
+    let (name, rest) = error.strip_prefix(NOT_PROVEN)?.split_once(" at ")?;
+    let (instruction, _) = rest.split_once(": ")?;
+    Some((name.parse().ok()?, instruction.parse().ok()?))
 }
 
 /// Refusals 9 and 10 with their chunk, found here because types.rs does not
@@ -203,7 +213,12 @@ fn refusal(
             refused(number, Some((chunk, usize::from(NONE))), steps)
         }
         11 | 12 => refused(number, None, steps),
-        13..=15 => refused(number, Some(at.expect("an entry was taken")), steps),
+        13 => {
+            let named = not_proven_at(error).expect("types.rs names the place of 13");
+            assert_eq!(Some(named), at, "the entry taken last; types.rs: {error}");
+            refused(number, Some(named), steps)
+        }
+        14 | 15 => refused(number, Some(at.expect("an entry was taken")), steps),
         _ => refused(number, Some(scanned.expect("a state was looked at")), steps),
     }
 }

@@ -1,6 +1,8 @@
 //! One description given to the port, and what is seen afterwards held against
 //! the oracle's outcome.
 
+#[cfg(valgrind)]
+use crate::memcheck;
 use crate::port;
 use oracle::generate::random::Random;
 use oracle::index::{Entry, entries};
@@ -24,7 +26,8 @@ pub fn guarded<T>(work: impl FnOnce() -> T) -> Result<T, String> {
 }
 
 /// Buffers that are used again and again, with some room behind each that
-/// nothing may touch. Under valgrind each is new, with nothing behind it.
+/// nothing may touch. Under valgrind each is new, with nothing behind it, and
+/// what is lent of it counts as never written.
 #[derive(Default)]
 pub struct Buffers {
     workspace: Vec<u32>,
@@ -52,7 +55,23 @@ impl Buffers {
     /// What is lent of them: workspace, report buffer, index buffer.
     fn lent(&mut self, bounds: &Bounds) -> (&mut [u32], &mut [u8], &mut [u8]) {
         let Bounds { words, report_len, index_len, .. } = *bounds;
+        #[cfg(valgrind)]
+        {
+            memcheck::never_written(&mut self.workspace);
+            memcheck::never_written(&mut self.report);
+            memcheck::never_written(&mut self.index);
+        }
         (&mut self.workspace[..words], &mut self.report[..report_len], &mut self.index[..index_len])
+    }
+
+    /// What a call that came out so has to leave as it was may be read again.
+    #[cfg(valgrind)]
+    fn left(&self, report: &[u8], index: &[u8], number: u8) {
+        memcheck::written(&self.report[report.len()..]);
+        memcheck::written(&self.index[index.len()..]);
+        if (1..=5).contains(&number) {
+            memcheck::written(&self.workspace);
+        }
     }
 
     /// None where a call that came out so, with such an index, has left in them
@@ -62,6 +81,8 @@ impl Buffers {
             Outcome::Accepted { report, .. } => report,
             Outcome::Refused(_) => &[],
         };
+        #[cfg(valgrind)]
+        self.left(report, index, expected.number());
         if let Some((at, byte, wanted)) = wrong_byte(&self.report, report, start) {
             let part = part_of("report", at, report.len(), bounds.report_len);
             return Some(format!("byte {at} {part} is {byte}, not {wanted}: {}", field_at(report, at)));
@@ -204,14 +225,15 @@ fn field_at(report: &[u8], at: usize) -> String {
     "in no field".into()
 }
 
-/// The least workspace of a description, or the refusal's number, where the
-/// port says it.
-pub fn words_differ(bytes: &[u8], expected: Result<u64, u8>) -> Option<String> {
+/// The sizes of a description: the least workspace, or the refusal's number;
+/// and a length that its report, of so many bytes, must not pass.
+pub fn sizes_differ(bytes: &[u8], expected: Result<u64, u8>, length: usize) -> Option<String> {
     let own: Box<[u8]> = bytes.into();
-    match guarded(|| port::words(&own)) {
-        Ok(Some(answer)) if answer != expected => Some(format!("words {answer:?}, not {expected:?}")),
+    match guarded(|| port::sizes(&own)) {
+        Ok(answer) if answer.map(|sizes| sizes.0) != expected => Some(format!("words {answer:?}, not {expected:?}")),
+        Ok(Ok((_, most))) if most < length as u64 => Some(format!("a report of {length} bytes, not {most} at most")),
         Ok(_) => None,
-        Err(panic) => Some(format!("words: {panic}")),
+        Err(panic) => Some(format!("sizes: {panic}")),
     }
 }
 

@@ -115,6 +115,8 @@ fn every_fault_is_noticed() {
         "19's index", "19's workspace", "19's steps", "past the index", "index's length", "steps with index",
         // Of the lookup through one.
         "left over", "any index", "20 for none",
+        // Of the sizes.
+        "sizes refused", "least workspace", "most bytes",
     ];
     for fault in faults {
         let (good, output) = compared("20000", fault);

@@ -3,7 +3,7 @@
 
 use oracle::judged::{Text, text_of};
 use oracle::model::*;
-use oracle::run::{Outcome, Refusal, check, check_by, measure};
+use oracle::run::{Outcome, Refusal, check, check_by, measure, not_proven_at};
 use oracle::text;
 
 const NO: u16 = 65535;
@@ -456,6 +456,24 @@ fn one_for_each_refusal_up_to_8() {
     assert_eq!(check(&two_ways, 657, 16384, 99), refused(8, 0, 1, 2));
     assert!(matches!(check(&two_ways, 658, 16384, 99), Outcome::Accepted { .. }));
     assert_eq!(measure(&two_ways, 658, 16384, 99).most_queued, 2);
+}
+
+#[test]
+fn the_place_of_13_is_the_texts() {
+    let begins = "coroutine scalar types are not proven in";
+    assert_eq!(not_proven_at(&format!("{begins} 3 at 17: GetLocal(2)")), Some((3, 17)));
+    assert_eq!(not_proven_at(&format!("{begins} 17 at 3: Call(1, 0)")), Some((17, 3)));
+    for text in ["3 at 17", "at 17: Len", "3: Len", "3 at : Len", "main at 17: Len", ""] {
+        assert_eq!(not_proven_at(&format!("{begins} {text}")), None, "{text}");
+    }
+    assert_eq!(not_proven_at("coroutine inspection has mixed or unknown receiver kinds"), None);
+    // In the second chunk, at its third instruction: the two numbers differ.
+    let chunk = "chunk L=0 D=1 returns=Top:0:?";
+    let text = format!(
+        "header float=6\n{chunk}\nPushImmediate 1 : 0 1\nReturn : 0 0\n
+        {chunk}\nPushImmediate 1 : 0 1\nNot : 1 1\nLen : 1 1\nReturn : 0 0"
+    );
+    assert_eq!(ample(&parsed(&text)), refused(13, 1, 2, 5));
 }
 
 #[test]

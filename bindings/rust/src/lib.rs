@@ -20,6 +20,7 @@ pub mod raw {
             answer: *mut [u32; 5],
         ) -> u32;
         pub fn facts_words(description: *const u8, description_bytes: usize, words: *mut [u64; 1]) -> u32;
+        pub fn facts_sizes(description: *const u8, description_bytes: usize, sizes: *mut [u64; 2]) -> u32;
         pub fn facts_lookup(
             report: *const u8,
             report_bytes: usize,
@@ -229,6 +230,24 @@ pub fn words(description: &[u8]) -> Result<usize, Reason> {
     if number == 0 { Ok(words[0] as usize) } else { Err(Reason(number as u8)) }
 }
 
+/// What to lend for a description: the least workspace, in words, and a report
+/// buffer, in bytes, that no report of the description is too long for.
+#[derive(Debug, Clone, Copy, PartialEq, Eq)]
+pub struct Sizes {
+    pub words: usize,
+    pub report: usize,
+}
+
+/// The sizes of a description; where it has no good form, which of 1 to 4 it
+/// is. The report's is a bound: a report is often shorter, never longer.
+pub fn sizes(description: &[u8]) -> Result<Sizes, Reason> {
+    let mut sizes = [0; 2];
+    // SAFETY: the slice is valid for the whole call, and `sizes` is borrowed for it alone.
+    let number = unsafe { raw::facts_sizes(description.as_ptr(), description.len(), &mut sizes) };
+    let [words, report] = sizes.map(|size| size as usize);
+    if number == 0 { Ok(Sizes { words, report }) } else { Err(Reason(number as u8)) }
+}
+
 /// The record of an instruction in a report, tag and length included; the
 /// empty part at the end where there is none.
 pub fn lookup(report: &[u8], chunk: u16, instruction: u16) -> &[u8] {
@@ -434,6 +453,12 @@ mod tests {
     fn refused(outcome: Result<AcceptedIndexed, Refusal>) -> (u8, u16, u16, u32) {
         let refusal = outcome.expect_err("refused");
         (refusal.reason.number(), refusal.chunk, refusal.instruction, refusal.steps)
+    }
+
+    #[test]
+    fn the_worked_sizes() {
+        assert_eq!(sizes(WORKED), Ok(Sizes { words: words(WORKED).expect("good form"), report: 314 }));
+        assert_eq!(sizes(&WORKED[..60]), Err(words(&WORKED[..60]).expect_err("cut off")));
     }
 
     #[test]

@@ -23,13 +23,13 @@ use Rattle.form_laws.specs.Good.{Good, wordsOf}
 use Rattle.form_laws.proofs.Theorem.{good-form}
 use Rattle.run_state.specs.Course.{roomIn}
 use Rattle.consistent.proofs.Accepted.{one-report}
-use Rattle.consistent.proofs.Bytes.{demand-3}
+use Rattle.consistent.proofs.Bytes.{demand-3, exact-bytes}
 use Rattle.refusal_laws.proofs.Forms.{form-numbers}
 use Rattle.refusal_laws.proofs.Left.{left-as-was, decided-zero}
 use Rattle.refusal_laws.proofs.Indexed.{outcome-with-zero, indexed-accepted}
 use Rattle.lookup_laws.proofs.Own.{accepted-own, accepted-entries}
-use Rattle.form.specs.room.Room.{roomBy, withRoom, roomOf}
-use Rattle.form.proofs.room.Decides.{onRoom, room-decides, room-fine}
+use Rattle.form.specs.room.Room.{roomBy, withRoom, roomOf, onRoom}
+use Rattle.form.proofs.room.Decides.{room-decides, room-fine}
 use Rattle.words.specs.clearing.Clearing.{cleared}
 use Rattle.words.proofs.clearing.Clearing.{cleared-all}
 use Rattle.call.specs.delivering.Told.{Told, ToldIndexed}
@@ -92,6 +92,7 @@ module _ (s ws : List ℕ) (limit : ℕ) where
           workspace = w;
           short = n;
           consistent = λ long steps e. rw b (demand-3 s ws buf limit long steps (sym a ∙ e));
+          exact = λ long steps e. rw b (exact-bytes s ws buf limit long steps (sym a ∙ e));
           one-report = λ long steps e. rw b (one-report s ws buf limit long steps (sym a ∙ e));
         }
 
@@ -127,6 +128,9 @@ module _ (s ws : List ℕ) (limit : ℕ) where
           consistent = λ long steps k e.
               let x = indexed-accepted s ws buf idx limit long steps k (sym a ∙ e) in
               rw (b ∙ sym (x .1)) (demand-3 s ws buf limit long steps (x .0));
+          exact = λ long steps k e.
+              let x = indexed-accepted s ws buf idx limit long steps k (sym a ∙ e) in
+              rw (b ∙ sym (x .1)) (exact-bytes s ws buf limit long steps (x .0));
           one-report = λ long steps k e.
               let x = indexed-accepted s ws buf idx limit long steps k (sym a ∙ e) in
               rw (b ∙ sym (x .1)) (one-report s ws buf limit long steps (x .0));

@@ -11,6 +11,7 @@ use Rattle.answers.specs.Answers.{indexedNumbers}
 use Rattle.report_index.specs.Index.{entriesOf, agrees}
 use Rattle.lookup_laws.specs.Entries.{recordEntries}
 use Rattle.definition.specs.Module.{moduleOf}
+use Rattle.definition.specs.Report.{reportBytes}
 use Rattle.definition.specs.CallIndexed.{callIndexed}
 use Rattle.report_laws.specs.Read.{readReport}
 use Rattle.consistent.specs.Consistent.{Consistent}
@@ -29,6 +30,8 @@ pub record CheckedIndexed (s ws buf idx : List ℕ) (limit : ℕ) (r : IndexedAn
   pub short : (getD (indexedNumbers r) 4 0 < 4294967296) × (getD (indexedNumbers r) 5 0 < 4294967296)
   -- demand 3, of the bytes that were written
   pub consistent : (long steps n : ℕ) → r ≡ Accepted long steps n → Consistent (moduleOf s) (readReport (take long buf′))
+  -- read strictly: these are exactly the bytes of the report that is read back
+  pub exact : (long steps n : ℕ) → r ≡ Accepted long steps n → reportBytes (readReport (take long buf′)) ≡ take long buf′
   -- document 02, One: every call without an index that accepts this description has this length, these steps and writes these bytes
   pub one-report : (long steps n : ℕ) → r ≡ Accepted long steps n → OneReport s long steps (take long buf′)
   -- document 02, Three: the index lists the records of the report, and no more

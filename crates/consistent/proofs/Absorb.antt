@@ -348,7 +348,7 @@ pub record Declared (m : Module) (r : Facts) : Type 0 where
   pub rows : (n : ℕ) → length (getD (r .inputs) n []) ≡ length (getD (firstFacts m .inputs) n [])
   pub results : Wider joinCell noCell (firstFacts m .results) (r .results)
   pub masks : Wider union NONE (firstFacts m .masks) (r .masks)
-  pub flows : length (r .flows) ≡ length (firstFacts m .flows)
+  pub flows : Wider joinFlow noFlow (firstFacts m .flows) (r .flows)
 
 pub absorb-declared : (m : Module) (f : Live) (g : Gift) → Declared m (f .known) → Declared m (absorb m f g .known)
 absorb-declared m f g s =
@@ -358,7 +358,7 @@ absorb-declared m f g s =
       rows = λ n. u .rows n ∙ s .rows n;
       results = wider-trans joinCell noCell _ _ _ (s .results) (u .results);
       masks = rw (u .masks) (s .masks);
-      flows = u .flows .size ∙ s .flows;
+      flows = wider-trans joinFlow noFlow _ _ _ (s .flows) (u .flows);
     }
 
 pub closed-declared : (m : Module) (f : Live) → Declared m (f .known) → Declared m (closed f)

@@ -13,16 +13,10 @@ use Rattle.definition.specs.Report.{Report, reportBytes}
 use Rattle.definition.specs.Call.{Decided, reported, turned, decide, Outcome, turnedBack, delivered, outcomeOf, call}
 use Rattle.masks.proofs.Both.{never}
 use Rattle.consistent.specs.Consistent.{Consistent}
+use Rattle.consistent.specs.Left.{Left}
 use Rattle.consistent.specs.OneReport.{OneReport}
 use Rattle.consistent.proofs.Decided.{same-report}
 use Rattle.consistent.proofs.Theorem.{consistent}
-
--- what an accepted call leaves in its buffer
-pub record Left (d : Decided) (o : Outcome) (buf : List ℕ) (long steps : ℕ) : Type 0 where
-  pub report : Report
-  pub decides : d ≡ reported report steps
-  pub size : length (reportBytes report) ≡ long
-  pub bytes : o .report ≡ reportBytes report ++ drop long buf
 
 outcome-left : (d : Decided) (ws buf : List ℕ) (long steps : ℕ) → outcomeOf d ws buf .answer ≡ Accepted long steps → Left d (outcomeOf d ws buf) buf long steps
 unfolding outcomeOf delivered turnedBack

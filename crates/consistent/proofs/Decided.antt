@@ -25,6 +25,7 @@ pub record Made (m : Module) (cap limit : ℕ) (r : Report) (n : ℕ) : Type 0 w
   pub admits : admitted m (m .chunks) ≡ none
   pub reply : ℕ
   pub bound : replyMaximum (knownOf m (firstFacts m) .reply) ≡ some reply
+  pub room : overfull m ≡ false
   pub final : Final Facts State
   pub ran : runOf (knownOf m (firstFacts m)) cap limit (firstFacts m) ≡ accepted final n
   pub says : reportOf (knownOf m (firstFacts m)) reply final ≡ r
@@ -33,23 +34,23 @@ module _ (m : Module) (cap limit : ℕ) (r : Report) (n : ℕ) where
   abbrev K : Known
   K = knownOf m (firstFacts m)
 
-  of-run : (a : Ran Facts State) → admitted m (m .chunks) ≡ none → (y : ℕ) → replyMaximum (K .reply) ≡ some y
+  of-run : (a : Ran Facts State) → admitted m (m .chunks) ≡ none → (y : ℕ) → replyMaximum (K .reply) ≡ some y → overfull m ≡ false
       → runOf K cap limit (firstFacts m) ≡ a → onRan K y a ≡ reported r n → Made m cap limit r n
   unfolding onRan
-  of-run (refused z) e y b a h = never (cc)
-  of-run (accepted x k) e y b a h =
+  of-run (refused z) e y b o a h = never (cc)
+  of-run (accepted x k) e y b o a h =
       let ek : k ≡ n = cc in
-      record { admits = e; reply = y; bound = b; final = x; ran = rw ek at a; says = cc }
+      record { admits = e; reply = y; bound = b; room = o; final = x; ran = rw ek at a; says = cc }
 
   of-reply : (o : Option ℕ) → admitted m (m .chunks) ≡ none → replyMaximum (K .reply) ≡ o → onReply K cap limit (firstFacts m) o ≡ reported r n
       → Made m cap limit r n
-  unfolding onReply admittedRun
+  unfolding onReply admittedRun knownOf
   of-reply none e b h = never (cc)
-  of-reply (some y) e b h = go (overfull (K .code)) h
+  of-reply (some y) e b h = go (overfull m) refl h
     where
-      go : (t : Bool) → cond t (turned (nowhere 12 0)) (onRan K y (runOf K cap limit (firstFacts m))) ≡ reported r n → Made m cap limit r n
-      go true h = never (cc)
-      go false h = of-run (runOf K cap limit (firstFacts m)) e y b refl h
+      go : (t : Bool) → overfull m ≡ t → cond t (turned (nowhere 12 0)) (onRan K y (runOf K cap limit (firstFacts m))) ≡ reported r n → Made m cap limit r n
+      go true o h = never (cc)
+      go false o h = of-run (runOf K cap limit (firstFacts m)) e y b o refl h
 
   of-admitted : (o : Option (ℕ × ℕ)) → admitted m (m .chunks) ≡ o → onAdmitted m cap limit o ≡ reported r n → Made m cap limit r n
   unfolding onAdmitted known

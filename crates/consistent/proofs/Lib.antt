@@ -5,6 +5,8 @@ pub mod Visits
 pub mod Wider
 pub mod Next
 pub mod Records
+pub mod Rising
+pub mod Sized
 pub mod Range
 pub mod Calls
 pub mod Carries
@@ -15,4 +17,5 @@ pub mod Sound
 pub mod Theorem
 pub mod Accepted
 pub mod Bytes
+pub mod Refuses
 pub mod Refusals

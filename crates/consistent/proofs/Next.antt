@@ -14,7 +14,7 @@ use Rattle.definition.specs.Leaves.{visitOf, lineAt}
 use Rattle.definition.specs.Report.{Report, isTest}
 use Rattle.definition.proofs.Next.{single-way}
 use Rattle.rule_laws.proofs.Tests.{test-rule}
-use Rattle.consistent.specs.Consistent.{Recorded, TakesIn, Leaves, ConsistentChunk, visitAt}
+use Rattle.consistent.specs.Consistent.{Recorded, TakesIn, Leaves, ArrivesChunk, visitAt}
 use Rattle.consistent.proofs.Wider.{still-locals}
 
 module _ (m : Module) (r : Report) (c : Chunk) (i : ℕ) (s : State) (test : isTest (ruleOf (lineAt c i .instr .op) .exit) ≡ true) (target : lineAt c i .instr .a ≡ suc i) where
@@ -26,7 +26,7 @@ module _ (m : Module) (r : Report) (c : Chunk) (i : ℕ) (s : State) (test : isT
   one = single-way v test target
 
   -- THEOREM: the next instruction is recorded and takes in all that leaves the branch
-  pub next-taken : ConsistentChunk m r c → Recorded r (c .number) i s → suc i < length (c .code)
+  pub next-taken : ArrivesChunk m r c → Recorded r (c .number) i s → suc i < length (c .code)
       → (t : State) × Recorded r (c .number) (suc i) t × TakesIn t (after v)
   next-taken h d l = h .passes i s d (suc i) (after v) (rw one (List·Memᴰ·head refl)) l
 

@@ -25,9 +25,9 @@ use Rattle.definition.specs.Leaves.{Known, visitOf, always, givesBy, gives, lin
 use Rattle.definition.specs.Start.{firstFacts}
 use Rattle.rule_laws.proofs.Faults.{no-fault, always-parts}
 use Rattle.rule_laws.proofs.Told.{call-is}
+pub use Rattle.consistent.specs.Calls.{CallsFit}
 use Rattle.consistent.proofs.Absorb.{Declared}
 use Rattle.consistent.proofs.Records.{Numbered, as-many, first-masks}
-use Rattle.ops.specs.Numbers.{opCall}
 
 -- ---- slots
 row-below : (i k n : ℕ) → List·Memᴰ n (row (λ j. j) i k) → n < i + k
@@ -64,12 +64,6 @@ unfolding firstFacts
 signed-below m k c h l =
     let l′ = number-below 0 (m .chunks) k c h in
     rw (length-map, length-take) (omega arith)
-
--- a call takes no more than its callee's parameters
-abbrev pub CallsFit : Module → Type 0
-CallsFit m =
-    (c : Chunk) → List·Memᴰ c (m .chunks) → (i : ℕ) → lineAt c i .instr .op ≡ opCall
-    → lineAt c i .instr .taken ≤ length (getD (firstFacts m .inputs) (lineAt c i .instr .a) [])
 
 -- ---- any gift
 abbrev pub Placed : Facts → Gift → Type 0

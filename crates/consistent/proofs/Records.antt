@@ -14,7 +14,7 @@ use Rattle.masks.specs.declared.Mask.{Mask}
 use Rattle.masks.specs.Mask.{union}
 use Rattle.masks.specs.Names.{NONE}
 use Rattle.flows.specs.declared.Flow.{Flow}
-use Rattle.flows.specs.Flow.{noFlow}
+use Rattle.flows.specs.Flow.{joinFlow, noFlow}
 use Rattle.cells.specs.declared.Cell.{Cell}
 use Rattle.cells.specs.Cell.{joinCell}
 use Rattle.description.specs.Fields.{tagAt}
@@ -43,7 +43,7 @@ abbrev pub Numbered : ℕ → List Chunk → Type 0
 Numbered n [] = Unit {0}
 Numbered n (c ∷ cs) = (c .number ≡ n) × Numbered (suc n) cs
 
-after : {D : Type 0} (n : ℕ) (c : Chunk) (d : D) (cs : List Chunk) (ds : List D) → Numbered n cs → Beside c d cs ds → n ≤ c .number
+pub after : {D : Type 0} (n : ℕ) (c : Chunk) (d : D) (cs : List Chunk) (ds : List D) → Numbered n cs → Beside c d cs ds → n ≤ c .number
 after n c d [] ds k b = absurd b
 after n c d (x ∷ xs) [] k b = absurd b
 after n c d (x ∷ xs) (y ∷ ys) k (inl e) = omega (arith, ap (λ (z : Chunk). z .number) (e .0), k .0)
@@ -86,7 +86,7 @@ module _ {A : Type 0} (x : A) where
   abbrev InStates : (ℕ → State → List A) → ℕ → List (Option State) → Type 0
   InStates g i ss = (j : ℕ) × (s : State) × (getD ss j none ≡ some s) × List·Memᴰ x (g (i + j) s)
 
-  in-states : (g : ℕ → State → List A) (i : ℕ) (ss : List (Option State)) → List·Memᴰ x (fromStates g i ss) → InStates g i ss
+  pub in-states : (g : ℕ → State → List A) (i : ℕ) (ss : List (Option State)) → List·Memᴰ x (fromStates g i ss) → InStates g i ss
   unfolding fromStates fromState
   in-states g i [] m = absurd (List·Memᴰ·not-nil m)
   in-states g i (o ∷ ss) m = go o (in-states g (suc i) ss) (List·Memᴰ·append-cases (fromState g i o) m)
@@ -175,7 +175,7 @@ first-declared m =
       rows = λ n. refl;
       results = wider-refl joinCell noCell (firstFacts m .results);
       masks = wider-refl union NONE (firstFacts m .masks);
-      flows = refl;
+      flows = wider-refl joinFlow noFlow (firstFacts m .flows);
     }
 
 -- as many results as chunks have inputs, as many flows as masks
@@ -183,7 +183,7 @@ pub as-many : (m : Module) (f : Facts) → Declared m f → length (f .results) 
 as-many m f s = s .results .size ∙ first-results m ∙ sym (s .inputs .size)
 
 pub all-flows : (m : Module) (f : Facts) → Declared m f → length (f .flows) ≡ length (f .masks)
-all-flows m f s = s .flows ∙ first-flows m ∙ sym (s .masks .size ∙ first-masks m)
+all-flows m f s = s .flows .size ∙ first-flows m ∙ sym (s .masks .size ∙ first-masks m)
 
 pub facts-back : (k : Known) (reply : ℕ) (x : Final Facts State) → Declared (k .code) (x .facts) → factsOf (reportOf k reply x) ≡ x .facts
 unfolding factsOf reportOf
@@ -215,15 +215,20 @@ module _ (k : Known) (reply : ℕ) (x : Final Facts State) (numbers : Numbered 0
   unfolding recordOf recordFrom stateOf
   its-state y c st i s e r = rw e r
 
+  -- it says what follows from its own state
+  itself : (y : Record) (c : Chunk) (i : ℕ) (s : State) → y ≡ recordOf k c (x .facts) i s → y ≡ recordOf k c (x .facts) (y .instruction) (stateOf y)
+  unfolding recordOf recordFrom stateOf
+  itself y c i s e = rw e
+
   -- a record is of a chunk and of one of its states
   pub record-of : (y : Record) → List·Memᴰ y (reportOf k reply x .records)
       → (c : Chunk) × (st : List (Option State)) × Beside c st (k .code .chunks) (x .states)
-      × (y .chunk ≡ c .number) × (getD st (y .instruction) none ≡ some (stateOf y))
+      × (y .chunk ≡ c .number) × (getD st (y .instruction) none ≡ some (stateOf y)) × (y ≡ recordOf k c (x .facts) (y .instruction) (stateOf y))
   unfolding reportOf recordOf recordFrom
   record-of y m =
       let (c, st, i, s, b, r, h) = in-chunks y recorded (k .code .chunks) (x .states) m in
       let e : y ≡ recordOf k c (x .facts) i s = List·Memᴰ·eq-of-singleton h in
-      (c, st, b, ap (λ (z : Record). z .chunk) e, its-state y c st i s e r)
+      (c, st, b, ap (λ (z : Record). z .chunk) e, its-state y c st i s e r, itself y c i s e)
 
   -- its guards are those of a visit
   pub guards-ordered : (y : Record) → List·Memᴰ y (reportOf k reply x .records) → guardsRise (y .guards) ≡ true
@@ -247,6 +252,6 @@ module _ (k : Known) (reply : ℕ) (x : Final Facts State) (numbers : Numbered 0
   pub unsaid : (c : Chunk) (st : List (Option State)) (i : ℕ) (s : State) → Beside c st (k .code .chunks) (x .states)
       → Recorded (reportOf k reply x) (c .number) i s → getD st i none ≡ some s
   unsaid c st i s b r =
-      let (c′, st′, b′, p, q) = record-of (r .entry) (r .listed) in
+      let (c′, st′, b′, p, q, _) = record-of (r .entry) (r .listed) in
       let (ec, es) = same-place 0 c c′ st st′ (k .code .chunks) (x .states) numbers b b′ (sym (r .of-chunk) ∙ p) in
       rw (es, ← r .at, ← r .says) q

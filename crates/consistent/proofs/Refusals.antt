@@ -14,8 +14,10 @@ use Rattle.definition.specs.State.{State, Facts, Live, join}
 use Rattle.definition.specs.Leaves.{Known, leaves, absorb, opened, closed, moved}
 use Rattle.definition.specs.Start.{start, afterChunk}
 use Rattle.definition.specs.Call.{runOf}
-use Rattle.machine_laws.proofs.Takings.{after-takings, Counted, Spent, refused-counted}
-use Rattle.machine_laws.proofs.Limits.{Full, full-exactly}
+use Rattle.machine_laws.specs.Takings.{after-takings, Counted, Spent}
+use Rattle.machine_laws.proofs.Takings.{refused-counted}
+use Rattle.machine_laws.specs.Full.{Full}
+use Rattle.machine_laws.proofs.Limits.{full-exactly}
 use Rattle.refusal_laws.proofs.Only.{OfRes, OfPlace, OfWhere}
 use Rattle.refusal_laws.proofs.Visits.{leaves-of, join-of, after-of}
 use Rattle.refusal_laws.proofs.Runs.{enter-only, takes-only}

@@ -18,7 +18,7 @@ use Rattle.masks.specs.Mask.{of, union, has}
 use Rattle.masks.specs.Mask.{same as sameMask}
 use Rattle.masks.specs.Names.{NONE, FALSE, TRUE, ENUM}
 use Rattle.flows.specs.declared.Predicate.{Predicate}
-use Rattle.flows.specs.declared.Predicate.the-variants.{Nothing as Untested, Tests}
+use Rattle.flows.specs.declared.Predicate.the-variants.{Nothing as Untested}
 use Rattle.flows.specs.Flow.{joinPredicate, samePredicate, joinFlow}
 use Rattle.cells.specs.declared.Cell.{Cell}
 use Rattle.cells.specs.Cell.{joinCell}
@@ -28,6 +28,7 @@ use Rattle.ops.specs.declared.Asks.{Asks}
 use Rattle.ops.specs.declared.Asks.the-variants.{First}
 use Rattle.ops.specs.declared.Acts.the-variants.{Still}
 use Rattle.join_laws.proofs.Masks.{or-le-r, none-of-or, mask-equals}
+use Rattle.join_laws.proofs.Flat.{flat-kept}
 use Rattle.join_laws.proofs.Flows.{predicate-equals}
 use Rattle.join_laws.proofs.Cells.{cell-joins, cell-mask}
 use Rattle.definition.specs.declared.Ask.the-variants.{First as AskFirst}
@@ -163,12 +164,7 @@ along-wider y y₀ z₀ (some r) up h = go (has (getD (y₀ .locals) r noCell .m
 
 -- the predicate stays or is dropped
 kept-predicate : (p q : Predicate) → joinPredicate p q ≡ p → (p ≡ Untested) ⊎ (q ≡ p)
-kept-predicate Untested q h = inl refl
-kept-predicate (Tests r w) q h = go (samePredicate (Tests r w) q) refl h
-  where
-    go : (b : Bool) → samePredicate (Tests r w) q ≡ b → cond b (Tests r w) Untested ≡ Tests r w → (Tests r w ≡ Untested) ⊎ (q ≡ Tests r w)
-    go true e h = inr (sym (predicate-equals .sound (Tests r w) q e))
-    go false e h = inl (sym h)
+kept-predicate p q h = flat-kept samePredicate Untested predicate-equals p q h
 
 narrow-wider : (x : Exit) (p q : Predicate) (target to : ℕ) (y y₀ z₀ : State) → (p ≡ Untested) ⊎ (q ≡ p) → (isTest x ≡ true → Enums y y₀)
     → along y₀ (narrowing x q target to) ≡ some z₀ → (z : State) × (along y (narrowing x p target to) ≡ some z)

@@ -1,15 +1,18 @@
 -- Demand 3: a report that is consistent beside its module. Recorded, takes in, leaves, passes and reached are document 01's words. Of document
--- 02: the order of guards (One).
+-- 02: the order of guards (One), and the list of what a report can be held to, whoever wrote it (Eight).
+-- Two parts: `Arrives`, which a look at report and description decides, and `reached`, which only a run gives.
 use Prim.Native.Nat.{ℕ, _<_, _≤_}
 use mathlib.Core.Path.{_≡_}
 use mathlib.Core.Logic.{_⊎_, _↔_}
 use mathlib.Core.Bool.{true, false, _||_}
-use mathlib.Core.Option.{some}
-use mathlib.Core.List.{List, [], map, List·Memᴰ}
+use mathlib.Core.Option.{none, some}
+use mathlib.Core.List.{List, [], _++_, map, List·Memᴰ}
 use lib.Dec.{leb}
 use lib.ListN.{length, getD}
+use Rattle.masks.specs.declared.Mask.{Mask}
 use Rattle.masks.specs.Mask.{union}
 use Rattle.masks.specs.Names.{NONE, FALSE, TRUE}
+use Rattle.widths.specs.declared.Width.the-variants.{Unknown as Wide}
 use Rattle.flows.specs.Flow.{joinFlow, noFlow}
 use Rattle.cells.specs.declared.Cell.{Cell}
 use Rattle.cells.specs.Cell.{joinCell}
@@ -22,8 +25,10 @@ use Rattle.definition.specs.Outputs.{Visit, noCell}
 use Rattle.definition.specs.Wants.{unfit}
 use Rattle.definition.specs.Ways.{after, leaving}
 use Rattle.definition.specs.Leaves.{always, visitOf, lineAt, gives, storedFlow}
-use Rattle.definition.specs.Start.{stateFault, initMask, firstFacts, knownOf, filled, last}
-use Rattle.definition.specs.Report.{Report, Record, guardsRise, Inspection, Branch, saysFalse, isTest}
+use Rattle.definition.specs.Start.{stateFault, admitted, overfull, initMask, firstFacts, replyMaximum, knownOf, filled, last}
+use Rattle.definition.specs.Report.{Report, Record, guardsRise, recordOf, Inspection, Branch, saysFalse, isTest}
+use Rattle.report_laws.specs.Names.{NamesLocal, NamesReceiver}
+use Rattle.consistent.specs.Rising.{Rising, RisingBy}
 
 -- ---- what a report says
 -- the cells of tags 17 and 18, as the rules read them
@@ -93,13 +98,28 @@ GivenIn m f (arguments n cs) =
 GivenIn m f (returned n c) = (n < length (f .results)) × TakesCell (getD (f .results) n noCell) c
 GivenIn m f (written ns c) = (n : ℕ) → List·Memᴰ n ns → (n < length (f .masks)) × WrittenIn m f n c
 
--- the facts printed are as many as the declared ones and take them in: inputs, results, and the masks of the initializers
+-- the facts printed are as many as the declared ones, and inputs and results take them in
 pub record DeclaredIn (m : Module) (f : Facts) : Type 0 where
   pub chunks : length (f .inputs) ≡ length (firstFacts m .inputs)
   pub inputs : (n : ℕ) → n < length (f .inputs) → TakesAll (getD (f .inputs) n []) (getD (firstFacts m .inputs) n [])
   pub results : TakesAll (f .results) (firstFacts m .results)
   pub slots : length (f .masks) ≡ m .slots
-  pub masks : (n : ℕ) → n < m .slots → union (getD (f .masks) n NONE) (initMask m n) ≡ getD (f .masks) n NONE
+
+-- what a private fact begins with: the kinds of its initializer, no width, no size, no origin
+abbrev pub freshSlot : Mask → Cell
+freshSlot k = record { mask = k; width = Wide; flow = noFlow }
+
+-- ---- the size of a record
+-- a cell names no local past the first n
+pub record Names (n : ℕ) (x : Cell) : Type 0 where
+  pub origin : NamesLocal (λ l. l < n) (x .flow .origin)
+  pub receiver : NamesReceiver (λ l. l < n) (x .flow .predicate)
+
+-- all locals of the chunk and no others, a stack of at most D, and no local named that the chunk hasn't
+pub record Sized (c : Chunk) (s : State) : Type 0 where
+  pub locals : length (s .locals) ≡ c .locals
+  pub stack : length (s .stack) ≤ c .stack
+  pub names : (x : Cell) → List·Memᴰ x (s .stack ++ s .locals) → Names (c .locals) x
 
 -- ---- branches and inspections
 -- a test whose condition is exactly one Bool
@@ -120,9 +140,9 @@ pub record Fine (v : Visit) (s : State) : Type 0 where
   pub height : length (after v .stack) ≤ v .chunk .stack
   pub inspected : stateFault (v .line) (some s) ≡ 0
 
--- ---- the whole
+-- ---- what a report can be held to, whoever wrote it
 -- one chunk
-pub record ConsistentChunk (m : Module) (r : Report) (c : Chunk) : Type 0 where
+pub record ArrivesChunk (m : Module) (r : Report) (c : Chunk) : Type 0 where
   -- the first instruction is recorded and takes in the chunk's printed inputs: an empty stack, and Unit in the other locals
   pub begins : (s : State) × Recorded r (c .number) 0 s × TakesIn s (record { stack = []; locals = filled (c .locals) (getD (factsOf r .inputs) (c .number) []) })
   -- wherever control may pass, the second instruction is recorded too and takes in what leaves the first on that way
@@ -132,20 +152,38 @@ pub record ConsistentChunk (m : Module) (r : Report) (c : Chunk) : Type 0 where
   pub given : (i : ℕ) (s : State) → Recorded r (c .number) i s → GivenIn m (factsOf r) (gives (visitAt m r c i s))
   -- no refusal follows: its operands are there, of proven kinds, packed, its height fits, and an inspection has what it looks at
   pub fine : (i : ℕ) (s : State) → Recorded r (c .number) i s → Fine (visitAt m r c i s) s
-  -- each recorded instruction is one of the chunk, and reached from its first
+  -- each recorded instruction is one of the chunk, and its state of the chunk's size
   pub inside : (i : ℕ) (s : State) → Recorded r (c .number) i s → i < length (c .code)
-  pub reached : (i : ℕ) (s : State) → Recorded r (c .number) i s → Reached m r c i
+  pub sized : (i : ℕ) (s : State) → Recorded r (c .number) i s → Sized c s
+  -- a record is the one that follows from its stack and locals: its outputs and its guards
+  pub follows : (x : Record) → List·Memᴰ x (r .records) → x .chunk ≡ c .number
+      → x ≡ recordOf (knownOf m (firstFacts m)) c (factsOf r) (x .instruction) (stateOf x)
 
-pub record Consistent (m : Module) (r : Report) : Type 0 where
-  -- the signatures stand in the order of their chunks, and all facts have what is declared
+pub record Arrives (m : Module) (r : Report) : Type 0 where
+  -- no refusal from 9 to 12 follows; the reply maximum is the description's
+  pub admits : admitted m (m .chunks) ≡ none
+  pub reply : replyMaximum (knownOf m (firstFacts m) .reply) ≡ some (r .reply)
+  pub room : overfull m ≡ false
+  -- the signatures stand in the order of their chunks, one for each, and all facts have what is declared
   pub numbered : map (λ x. x .chunk) (r .signatures) ≡ row (λ n. n) 0 (length (r .signatures))
   pub declared : DeclaredIn m (factsOf r)
-  pub chunks : (c : Chunk) → List·Memᴰ c (m .chunks) → c .reachable ≡ true → ConsistentChunk m r c
+  pub slots : (n : ℕ) → n < m .slots → TakesCell (getD (r .slots) n noCell) (freshSlot (initMask m n))
+  -- the records rise, so none is of an instruction that another is of
+  pub rising : Rising (r .records)
+  pub chunks : (c : Chunk) → List·Memᴰ c (m .chunks) → c .reachable ≡ true → ArrivesChunk m r c
   -- an unreachable chunk has no records, and every record is of a chunk
   pub none : (c : Chunk) → List·Memᴰ c (m .chunks) → c .reachable ≡ false → (i : ℕ) (s : State) → Recorded r (c .number) i s → ⊥
   pub owned : (x : Record) → List·Memᴰ x (r .records) → (c : Chunk) × List·Memᴰ c (m .chunks) × (x .chunk ≡ c .number) × (c .reachable ≡ true)
   -- the guards of a record stand in rising order of stack place, then of mask (document 02, One)
   pub ordered : (x : Record) → List·Memᴰ x (r .records) → guardsRise (x .guards) ≡ true
-  -- the known branches and false inspections listed are those that the records show
+  -- the known branches and false inspections listed are those that the records show, each once
   pub branches : (b : Branch) → (List·Memᴰ b (r .branches) ↔ KnownBranch m r b)
+  pub branchesRise : RisingBy (λ b. b .chunk) (λ b. b .instruction) (r .branches)
   pub inspections : (x : Inspection) → (List·Memᴰ x (r .inspections) ↔ FalseInspection m r x)
+  pub inspectionsRise : RisingBy (λ x. x .chunk) (λ x. x .instruction) (r .inspections)
+
+-- ---- the whole
+pub record Consistent (m : Module) (r : Report) : Type 0 where
+  pub arrives : Arrives m r
+  -- each recorded instruction is reached from the first of its chunk
+  pub reached : (c : Chunk) → List·Memᴰ c (m .chunks) → c .reachable ≡ true → (i : ℕ) (s : State) → Recorded r (c .number) i s → Reached m r c i

@@ -16,12 +16,7 @@ use Rattle.definition.specs.declared.Check.{Check}
 use Rattle.definition.specs.declared.Check.the-variants.{Fine, Guard, Unproven}
 use Rattle.definition.specs.Outputs.{Visit}
 use Rattle.definition.specs.Wants.{Asked, Guarded, guardOf, guardsIn, guards, require, returned, operandChecks, checksBy, checks, wantOf}
-use Rattle.definition.specs.Report.{guardBefore, guardsRise}
-
--- the guards stand at places from n on, at each place at most one, rising
-abbrev pub OnceFrom : ℕ → List Guarded → Type 0
-OnceFrom n [] = Unit {0}
-OnceFrom n (g ∷ gs) = (n ≤ g .place) × OnceFrom (suc (g .place)) gs
+use Rattle.definition.specs.Report.{guardBefore, guardsRise, OnceFrom}
 
 once-below : (n m : ℕ) (gs : List Guarded) → n ≤ m → OnceFrom m gs → OnceFrom n gs
 once-below n m [] l h = tt

@@ -5,7 +5,7 @@
 -- Where it differs: the three loops are one, so that steps, limit and queue have one place each; 7 and 8 are not in types.rs. Readings: B1
 -- the queue, B3 steps, B4 7 against 16 and 17, D11 validation goes through everything once more and adds nothing to the facts.
 -- How it ends: `run` counts the takings that are left; `enter` goes along the chunks, `puts` along the ways. Left open: state, facts, join
--- and rule (`runOf` in Call.antt has them), and whether some limit is enough for a description: no theorem says so.
+-- and rule (`runOf` in Call.antt has them). Some room and limit are enough for every description of good form: crate termination.
 use Prim.Native.Nat.{ℕ, zero, suc}
 use mathlib.Core.Bool.{Bool, true, false, cond, not}
 use mathlib.Core.Option.{Option, none, some}

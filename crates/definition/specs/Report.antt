@@ -7,7 +7,7 @@
 -- absent parts, D5 a guard of mask 0 is listed. Of document 02: One, the order of a record's guards (`guardsRise`); that they stand in it is a
 -- theorem, `guards-rise` (proofs/Guards.antt).
 -- Nothing is left open: one report for each run. Recursion goes along lists.
-use Prim.Native.Nat.{ℕ, suc}
+use Prim.Native.Nat.{ℕ, suc, _≤_}
 use mathlib.Core.Bool.{Bool, true, false, not, cond, _&&_, _||_}
 use mathlib.Core.Option.{Option, none, some}
 use mathlib.Core.List.{List, [], _∷_, _++_}
@@ -74,6 +74,11 @@ unfoldable pub guardsRise : List Guarded → Bool
 guardsRise [] = true
 guardsRise (g ∷ []) = true
 guardsRise (g ∷ (h ∷ gs)) = guardBefore g h && guardsRise (h ∷ gs)
+
+-- the guards stand at places from n on, at each place at most one, rising
+abbrev pub OnceFrom : ℕ → List Guarded → Type 0
+OnceFrom n [] = Unit {0}
+OnceFrom n (g ∷ gs) = (n ≤ g .place) × OnceFrom (suc (g .place)) gs
 
 -- tags 20 and 21
 pub record Inspection : Type 0 where

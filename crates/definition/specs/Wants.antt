@@ -33,7 +33,7 @@ use Rattle.definition.specs.declared.Check.the-variants.{Fine, Guard, Un
 use Rattle.definition.specs.Module.{Module, Site}
 use Rattle.definition.specs.State.{Facts}
 use Rattle.definition.specs.Data.{slotsFrom, slotAllows}
-use Rattle.definition.specs.Outputs.{Visit, arg, instr, shared, constructedExtent}
+use Rattle.definition.specs.Outputs.{Visit, arg, instr, noCell, shared, constructedExtent}
 
 -- a value of these kinds where those are allowed: fine, fine behind a guard, or not proven. A value of no kind is not proven
 unfoldable pub require : Mask → Mask → Check
@@ -159,7 +159,7 @@ operandChecks v w k (c ∷ cs) =
 
 -- the value below the operands, which a `Return` gives back
 abbrev pub returned : Visit → Cell
-returned v = getD (v .below) (length (v .below) - 1) (arg v 0)
+returned v = getD (v .below) (length (v .below) - 1) noCell
 
 unfoldable pub checksBy : Visit → Want → Ask → List Asked
 checksBy v w Nothing = operandChecks v w 0 (v .args)

@@ -24,7 +24,7 @@ use Rattle.definition.specs.Module.{Module, moduleOf}
 use Rattle.definition.specs.State.{Gift, nothing, arguments, returned, written}
 use Rattle.definition.specs.Form.{callee}
 use Rattle.definition.specs.Data.{slotCount, slotsFrom, dataFault}
-use Rattle.definition.specs.Outputs.{Visit, noCell, arg, instr}
+use Rattle.definition.specs.Outputs.{Visit, noCell, instr}
 use Rattle.definition.specs.Wants.{isEntry}
 use Rattle.definition.specs.Wants.{returned as valueBelow}
 use Rattle.definition.specs.Leaves.{visitOf, hopeless, isReturn, nothingBelow, always, givesBy, gives, absorb, lineAt}
@@ -145,7 +145,7 @@ module _ (s ws : List ℕ) (v : RowVisit) (x : Looking s ws v) where
 
   value-is : 0 < v .start → valueBelow (visitIn s ws v) ≡ cellAt ws (placeAt (v .row) (v .start - 1))
   value-is l =
-      ap₂ (λ (cs : List Cell) (n : ℕ). getD cs (n - 1) (arg (visitIn s ws v) 0)) (below-is s ws v x) (below-long s ws v x)
+      ap₂ (λ (cs : List Cell) (n : ℕ). getD cs (n - 1) noCell) (below-is s ws v x) (below-long s ws v x)
       ∙ cellsAt-getD ws (stackAt (v .row)) (v .start) (v .start - 1) _ (omega arith)
 
   number-is : visitIn s ws v .chunk .number ≡ v .chunk

@@ -1,9 +1,10 @@
 -- What the program `factlist` prints for the bytes of its input.
 use Prim.Native.Nat.{ℕ}
 use mathlib.Core.Bool.{cond}
-use mathlib.Core.List.{List, []}
+use mathlib.Core.Path.{_≡_}
+use mathlib.Core.List.{List, [], _++_}
 use lib.Dec.{ltb}
-use lib.ListN.{length, replicate}
+use lib.ListN.{length, drop, replicate}
 use Rattle.answers.specs.declared.Answer.the-variants.{Refused}
 use Rattle.answers.specs.Answers.{nowhere}
 use Rattle.definition.specs.Call.{Outcome, call}
@@ -16,3 +17,12 @@ called s = call s (replicate 16384 0) (replicate 16384 0) 1000000
 -- longer input is turned back without a call
 unfoldable pub factlist : List ℕ → List ℕ
 factlist s = cond (ltb 16384 (length s)) (listing (Refused (nowhere 2 0)) []) (listing (called s .answer) (called s .report))
+
+-- the bytes that are room for every listing
+abbrev pub textRoom : ℕ
+textRoom = 65536
+
+-- the text of l became l′: the whole listing, r bytes, and behind it what stood there
+pub record Listed (s l l′ : List ℕ) (r : ℕ) : Type 0 where
+  pub long : r ≡ length (factlist s)
+  pub bytes : l′ ≡ factlist s ++ drop r l

@@ -4,9 +4,9 @@ use answers::nowhere;
 use facts::check;
 use listing::list;
 ghost use mathlib.Core.Path.{_≡_};
+ghost use Prim.Native.Nat.{_≤_};
 ghost use lib.ListN.{length, replicate};
-ghost use Rattle.listing.specs.Laid.{Laid};
-ghost use Rattle.factlisting.specs.Factlist.{factlist};
+ghost use Rattle.factlisting.specs.Factlist.{textRoom, Listed};
 
 // Room for the report and the words, of zeros.
 fn report_room() -> [u8; 16384]
@@ -21,9 +21,10 @@ fn word_room() -> [u32; 16384]
     [0; 16384]
 }
 
-// Lays the listing of a description into the text, as far as it goes, and answers how many bytes of it stand there.
+// Lays the whole listing of a description into the text, and answers how many bytes it has.
 pub fn list_facts(description: &[u8], text: &mut [u8]) -> usize
-    ensures { λ r. ⌜ Laid (now (text .entry)) 0 (factlist (now (description .entry))) (now (text .exit)) r ⌝ }
+    requires { ⌜ textRoom ≤ length (now text) ⌝ }
+    ensures { λ r. ⌜ Listed (now (description .entry)) (now (text .entry)) (now (text .exit)) r ⌝ }
 {
     if 16384 < description.len() {
         return list(Answer::Refused(nowhere(2, 0)), b"", text);
@@ -34,11 +35,10 @@ pub fn list_facts(description: &[u8], text: &mut [u8]) -> usize
     list(answer, &report, text)
 }
 
-// Reads a description from standard input and writes its listing. The text has room for that of any report of 16,384 bytes: a line has at
-// most 23 bytes for a field of 7 (tag 20), and no other field has more text for its bytes, but the 37 of the first line.
+// Reads a description from standard input and writes its listing, for which the text has room.
 pub fn run() {
     let mut description = [0u8; 16385];
-    let mut text = io::large_buffer();
+    let mut text = [0u8; 65536];
     let n = io::read_full(0, &mut description);
     let k = list_facts(&description[..n], &mut text);
     io::write_all(1, &text[..k]);

@@ -1,9 +1,11 @@
-// The library: `check`, `lookup`; with an index beside the report `check_indexed`, `lookup_indexed`.
+// The library: `sizes`, `check`, `lookup`; with an index beside the report `check_indexed`, `lookup_indexed`.
 pub use answers::Answer;
 pub use answers::IndexedAnswer;
 pub use answers::Refusal;
 pub use lookup::Part;
 pub use lookup::lookup;
+pub use report_bound::Enough;
+pub use report_bound::sizes;
 pub use report_index::Sought;
 ghost use Rattle.report_index.specs.Index.{Answered};
 ghost use Rattle.call.specs.Checked.{Checked};

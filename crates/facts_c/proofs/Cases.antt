@@ -6,6 +6,7 @@ use mathlib.Core.Bool.{true, cond}
 use mathlib.Core.List.{List, [], _∷_}
 use lib.Dec.{eqb}
 use lib.ListN.{length, take, getD}
+use Rattle.masks.proofs.Both.{never}
 use Rattle.answers.specs.declared.Refusal.{Refusal}
 use Rattle.answers.specs.declared.Answer.{Answer}
 use Rattle.answers.specs.declared.Answer.the-variants.{Accepted}
@@ -17,6 +18,7 @@ use Rattle.definition.specs.declared.Form.{Form}
 use Rattle.definition.specs.declared.Form.the-variants.{Fine, Refused}
 use Rattle.definition.specs.Form.{formOf}
 use Rattle.definition.specs.Module.{moduleOf}
+use Rattle.definition.specs.Report.{reportBytes}
 use Rattle.definition.specs.Call.{call}
 use Rattle.definition.specs.CallIndexed.{callIndexed}
 use Rattle.report_laws.specs.Read.{readReport}
@@ -30,9 +32,13 @@ use Rattle.report_index.specs.declared.Sought.the-variants.{Found, Disagrees}
 use Rattle.report_index.specs.Index.{agrees, sought, Answered}
 use Rattle.refusal_laws.proofs.Calls.{refused-numbers}
 use Rattle.refusal_laws.proofs.Indexed.{indexed-numbers}
+use Rattle.report_bound.specs.declared.Enough.{Enough}
+use Rattle.report_bound.specs.declared.Enough.the-variants.{Room}
+use Rattle.report_bound.specs.declared.Enough.the-variants.{Refused as Unlent}
+use Rattle.report_bound.specs.Sizes.{enoughBy, reportRoom, SizesFor}
 use Rattle.call.specs.Checked.{Checked}
 use Rattle.call.specs.CheckedIndexed.{CheckedIndexed}
-use Rattle.facts_c.specs.Called.{CallOf, IndexedCallOf, formNumber, leastWords, WordsOf, PartOf, soughtNumber, soughtPart, SoughtOf}
+use Rattle.facts_c.specs.Called.{CallOf, IndexedCallOf, formNumber, leastWords, longestReport, WordsOf, SizesOf, PartOf, soughtNumber, soughtPart, SoughtOf}
 
 pub in-accepted : (a : Answer) (length steps : ℕ) → a ≡ Accepted length steps
     → 0 ∷ (65535 ∷ (65535 ∷ (steps ∷ (length ∷ [])))) ≡ numbers a
@@ -52,9 +58,9 @@ short-length a length steps e h = rw e at h
 module _ (s ws buf : List ℕ) (limit : ℕ) where
   accepted-by : (a : Answer) (buf′ ws′ : List ℕ) → Checked s ws buf limit a buf′ ws′ → getD (numbers a) 0 0 ≡ 0
       → (long : ℕ) × (steps : ℕ) × (call s ws buf limit .answer ≡ Accepted long steps) × Consistent (moduleOf s) (readReport (take long buf′))
-      × OneReport s long steps (take long buf′)
+      × (reportBytes (readReport (take long buf′)) ≡ take long buf′) × OneReport s long steps (take long buf′)
   unfolding numbers
-  accepted-by (Accepted long steps) buf′ ws′ k z = (long, steps, sym (k .answer), k .consistent long steps refl, k .one-report long steps refl)
+  accepted-by (Accepted long steps) buf′ ws′ k z = (long, steps, sym (k .answer), k .consistent long steps refl, k .exact long steps refl, k .one-report long steps refl)
   accepted-by (Turned r) buf′ ws′ k z = absurd (omega (arith, refused-numbers s ws buf limit r (sym (k .answer)) .0))
 
   pub called : (a : Answer) (r : ℕ) (out buf′ ws′ : List ℕ) → Checked s ws buf limit a buf′ ws′ → out ≡ numbers a → r ≡ getD (numbers a) 0 0
@@ -80,6 +86,30 @@ words-fine f w e = rw e (record { number = refl; words = refl })
 pub words-small : (s : List ℕ) (w : ℕ) → formOf s ≡ Fine w → w < 4294967296
 words-small s w e = good-form s w e .small
 
+-- the sizes of a description, by its form
+module _ (s : List ℕ) where
+  lent-room : (f : Form) (words report : ℕ) → enoughBy s f ≡ Room words report → (formNumber f ≡ 0) × (leastWords f ≡ words) × (longestReport s f ≡ report)
+  unfolding enoughBy formNumber leastWords longestReport
+  lent-room (Fine w) words report e = (refl, (cc), (cc))
+  lent-room (Refused r) words report e = never (cc)
+
+  lent-none : (f : Form) (r : Refusal) → enoughBy s f ≡ Unlent r → (formNumber f ≡ r .number) × (leastWords f ≡ 0) × (longestReport s f ≡ 0)
+  unfolding enoughBy formNumber leastWords longestReport
+  lent-none (Fine w) r e = never (cc)
+  lent-none (Refused q) r e = ((cc), refl, refl)
+
+  pub sizes-fine : (x : Enough) (words report : ℕ) → SizesFor s x → x ≡ Room words report → SizesOf s 0 (words ∷ report ∷ [])
+  unfolding reportRoom
+  sizes-fine x words report k e =
+      let (n, w, l) = lent-room (formOf s) words report (sym (k .answer) ∙ e) in
+      record { number = sym n; sizes = rw (w, l); longest = rw e at (k .longest) }
+
+  pub sizes-turned : (x : Enough) (r : Refusal) → SizesFor s x → x ≡ Unlent r → SizesOf s (r .number) (0 ∷ 0 ∷ [])
+  unfolding reportRoom
+  sizes-turned x r k e =
+      let (n, w, l) = lent-none (formOf s) r (sym (k .answer) ∙ e) in
+      record { number = sym n; sizes = rw (w, l); longest = rw e at (k .longest) }
+
 pub part-found : (p x : Part) (r : ℕ) (out : List ℕ) → p ≡ x → r ≡ cond (eqb (p .size) 0) 0 1 → out ≡ p .first ∷ (p .size ∷ []) → PartOf x r out
 part-found p x r out e n o = rw (← e) (record { there = n; part = o })
 
@@ -103,11 +133,11 @@ short-lengths a length steps index e h = rw e at h
 module _ (s ws buf idx : List ℕ) (limit : ℕ) where
   accepted-with-by : (a : IndexedAnswer) (buf′ idx′ ws′ : List ℕ) → CheckedIndexed s ws buf idx limit a buf′ idx′ ws′ → getD (indexedNumbers a) 0 0 ≡ 0
       → (long : ℕ) × (steps : ℕ) × (n : ℕ) × (callIndexed s ws buf idx limit .answer ≡ AcceptedWith long steps n)
-      × Consistent (moduleOf s) (readReport (take long buf′)) × OneReport s long steps (take long buf′)
+      × Consistent (moduleOf s) (readReport (take long buf′)) × (reportBytes (readReport (take long buf′)) ≡ take long buf′) × OneReport s long steps (take long buf′)
       × (agrees (take long buf′) (take n idx′) ≡ true)
   unfolding indexedNumbers
   accepted-with-by (AcceptedWith long steps n) buf′ idx′ ws′ k z =
-      (long, steps, n, sym (k .answer), k .consistent long steps n refl, k .one-report long steps n refl, k .own-index long steps n refl)
+      (long, steps, n, sym (k .answer), k .consistent long steps n refl, k .exact long steps n refl, k .one-report long steps n refl, k .own-index long steps n refl)
   accepted-with-by (RefusedWith r) buf′ idx′ ws′ k z = absurd (omega (arith, indexed-numbers s ws buf idx limit r (sym (k .answer)) .0))
 
   pub called-with : (a : IndexedAnswer) (r : ℕ) (out buf′ idx′ ws′ : List ℕ) → CheckedIndexed s ws buf idx limit a buf′ idx′ ws′ → out ≡ indexedNumbers a

@@ -11,11 +11,15 @@ use Rattle.answers.specs.Answers.{numbers, indexedNumbers}
 use Rattle.definition.specs.declared.Form.{Form}
 use Rattle.definition.specs.declared.Form.the-variants.{Fine, Refused}
 use Rattle.definition.specs.Module.{moduleOf}
+use Rattle.definition.specs.Report.{reportBytes}
+use Rattle.definition.specs.Form.{formOf}
 use Rattle.definition.specs.Call.{call}
 use Rattle.definition.specs.CallIndexed.{callIndexed}
 use Rattle.report_laws.specs.Read.{readReport}
 use Rattle.consistent.specs.Consistent.{Consistent}
 use Rattle.consistent.specs.OneReport.{OneReport}
+use Rattle.report_bound.specs.Most.{mostReport}
+use Rattle.report_bound.specs.Sizes.{NoLonger}
 use Rattle.lookup.specs.declared.Part.{Part}
 use Rattle.lookup.specs.Find.{atEnd}
 use Rattle.report_index.specs.declared.Sought.{Sought}
@@ -29,9 +33,10 @@ pub record CallOf (s ws buf : List ℕ) (limit r : ℕ) (out buf′ ws′ : List
   pub number : r ≡ getD out 0 0
   pub report : buf′ ≡ call s ws buf limit .report
   pub workspace : ws′ ≡ call s ws buf limit .workspace
-  -- 0 is returned only where the call is accepted; demand 3, of the bytes that were written, and that no call accepts with others
+  -- 0 is returned only where the call is accepted; demand 3, of the bytes that were written, which are exactly those of the report that is read
+  -- back, and that no call accepts with others
   pub accepted : r ≡ 0 → (long : ℕ) × (steps : ℕ) × (call s ws buf limit .answer ≡ Accepted long steps) × Consistent (moduleOf s) (readReport (take long buf′))
-      × OneReport s long steps (take long buf′)
+      × (reportBytes (readReport (take long buf′)) ≡ take long buf′) × OneReport s long steps (take long buf′)
 
 -- the call with an index; idx the index buffer as it was, idx′ what the call left in it
 pub record IndexedCallOf (s ws buf idx : List ℕ) (limit r : ℕ) (out buf′ idx′ ws′ : List ℕ) : Type 0 where
@@ -41,10 +46,11 @@ pub record IndexedCallOf (s ws buf idx : List ℕ) (limit r : ℕ) (out buf′ i
   pub report : buf′ ≡ callIndexed s ws buf idx limit .report
   pub index : idx′ ≡ callIndexed s ws buf idx limit .index
   pub workspace : ws′ ≡ callIndexed s ws buf idx limit .workspace
-  -- 0 is returned only where the call is accepted; demand 3, that no call accepts with other bytes, and that report and index agree
+  -- 0 is returned only where the call is accepted; demand 3, byte for byte, that no call accepts with other bytes, and that report and index
+  -- agree
   pub accepted : r ≡ 0 → (long : ℕ) × (steps : ℕ) × (n : ℕ) × (callIndexed s ws buf idx limit .answer ≡ AcceptedWith long steps n)
-      × Consistent (moduleOf s) (readReport (take long buf′)) × OneReport s long steps (take long buf′)
-      × (agrees (take long buf′) (take n idx′) ≡ true)
+      × Consistent (moduleOf s) (readReport (take long buf′)) × (reportBytes (readReport (take long buf′)) ≡ take long buf′)
+      × OneReport s long steps (take long buf′) × (agrees (take long buf′) (take n idx′) ≡ true)
 
 -- 0 for good form, or the refusal's number
 unfoldable pub formNumber : Form → ℕ
@@ -59,6 +65,17 @@ leastWords (Refused r) = 0
 pub record WordsOf (f : Form) (r : ℕ) (out : List ℕ) : Type 0 where
   pub number : r ≡ formNumber f
   pub words : out ≡ leastWords f ∷ []
+
+-- a length that no report of the description passes; 0 where there is none
+unfoldable pub longestReport : List ℕ → Form → ℕ
+longestReport s (Fine w) = mostReport (moduleOf s)
+longestReport s (Refused r) = 0
+
+pub record SizesOf (s : List ℕ) (r : ℕ) (out : List ℕ) : Type 0 where
+  pub number : r ≡ formNumber (formOf s)
+  pub sizes : out ≡ leastWords (formOf s) ∷ longestReport s (formOf s) ∷ []
+  -- no call that accepts this description has a longer report, whatever it is lent
+  pub longest : NoLonger s (getD out 1 0)
 
 -- 1 where there is a record, 0 where there is none; the part's first byte and its length
 pub record PartOf (x : Part) (r : ℕ) (out : List ℕ) : Type 0 where

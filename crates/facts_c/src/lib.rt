@@ -1,7 +1,8 @@
-// The static library: the call, the least workspace and the lookup, the call and the lookup with an index, for programs in C and Rust. A slice is two arguments, pointer and length.
+// The static library: the call, the sizes that it is lent and the lookup, the call and the lookup with an index, for programs in C and Rust. A slice is two arguments, pointer and length.
 use answers::Answer;
 use answers::IndexedAnswer;
 use definition::Form;
+use facts::Enough;
 use facts::check;
 use facts::check_indexed;
 use facts::lookup_indexed;
@@ -19,7 +20,7 @@ ghost use Rattle.answers.specs.Answers.{numbers, indexedNumbers};
 ghost use Rattle.definition.specs.Form.{formOf};
 ghost use Rattle.lookup.specs.Find.{found};
 ghost use Rattle.report_index.specs.Index.{sought};
-ghost use Rattle.facts_c.specs.Called.{CallOf, IndexedCallOf, WordsOf, PartOf, SoughtOf};
+ghost use Rattle.facts_c.specs.Called.{CallOf, IndexedCallOf, WordsOf, SizesOf, PartOf, SoughtOf};
 
 // An answer as five words.
 fn in_words(answer: Answer) -> [u32; 5]
@@ -81,6 +82,23 @@ pub extern "C" fn facts_words(description: &[u8], words: &mut [u64; 1]) -> u32
         }
         Form::Fine(w) => {
             *words = [w + 1];
+            0
+        }
+    }
+}
+
+// The least workspace and a length that no report of the description passes, and 0; or zeros and the refusal's number.
+#[no_mangle]
+pub extern "C" fn facts_sizes(description: &[u8], sizes: &mut [u64; 2]) -> u32
+    ensures { λ r. ⌜ SizesOf (now (description .entry)) r (now (sizes .exit)) ⌝ }
+{
+    match facts::sizes(description) {
+        Enough::Refused(r) => {
+            *sizes = [0, 0];
+            r.number as u32
+        }
+        Enough::Room { words, report } => {
+            *sizes = [words, report];
             0
         }
     }

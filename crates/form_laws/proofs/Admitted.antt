@@ -12,12 +12,8 @@ use Rattle.definition.specs.Module.{Module, Chunk}
 use Rattle.definition.specs.Start.{agree, admission, admitted}
 use Rattle.masks.proofs.Both.{or-left, or-right}
 use Rattle.form_laws.specs.Good.{noChunk}
+pub use Rattle.form_laws.specs.Admitted.{Admitted}
 use Rattle.form_laws.proofs.Each.{mem-at}
-
-pub record Admitted (m : Module) (c : Chunk) : Type 0 where
-  pub code : 0 < length (c .code)
-  pub signed : c .number < m .signatures
-  pub params : length (c .params) ≡ c .arity
 
 not-empty : (n : ℕ) → eqb n 0 ≡ false → 0 < n
 not-empty zero h = let z : _≡_ {A = ℕ} 0 1 = ap (λ (b : Bool). cond b 0 1) h in absurd (omega arith)

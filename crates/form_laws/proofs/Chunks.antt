@@ -11,7 +11,7 @@ use borrow.Author.Tests.{eqb-true, ltb-true, ltb-false}
 use Rattle.description.specs.Fields.{tagAt, nextAt, fieldsF, fieldsFrom, ofTag, headerOf}
 use Rattle.definition.specs.Module.{Chunk, Line, lineOf, codeAfter, chunkFrom, chunksFrom, moduleFrom, moduleOf}
 use Rattle.definition.specs.Leaves.{noLine, lineAt}
-use Rattle.form_laws.proofs.Places.{Placed, codePlaces, placesFrom, places, chunksAt, noPlace}
+use Rattle.form_laws.specs.Places.{Placed, codePlaces, placesFrom, places, chunksAt, noPlace}
 use Rattle.form_laws.specs.Good.{noChunk, chunkNo}
 use Rattle.form_laws.proofs.Each.{suc-out, All, all-at, map-at}
 

@@ -1,4 +1,3 @@
-pub mod Places
 pub mod Tests
 pub mod Each
 pub mod Chunks

@@ -8,7 +8,7 @@ use lib.ListN.{length, getD, length-map}
 use Rattle.le.specs.Le.{at8}
 use Rattle.description.specs.Fields.{fieldsFrom, ofTag, paramOf, resultOf}
 use Rattle.definition.specs.Module.{Chunk, Native, signedParams, chunkFrom, nativeOf, moduleFrom, moduleOf}
-use Rattle.form_laws.proofs.Places.{places, noPlace}
+use Rattle.form_laws.specs.Places.{places, noPlace}
 use Rattle.form_laws.specs.Good.{noShape, chunkNo}
 use Rattle.form_laws.proofs.Each.{row-length, row-at, map-at}
 use Rattle.form_laws.proofs.Chunks.{chunk-placed}

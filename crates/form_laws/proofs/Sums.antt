@@ -15,7 +15,7 @@ use Rattle.definition.specs.Module.{Line, codeAfter, signedParams, chunkFrom, c
 use Rattle.answers.specs.Answers.{nowhere}
 use Rattle.definition.specs.Form.{parameters, lateLook, afterLook, finished}
 use Rattle.masks.proofs.Both.{never, or-right}
-use Rattle.form_laws.specs.Good.{chunkCells, cellsIn}
+use Rattle.form_laws.specs.Good.{chunkCells, cellsIn, instrsIn}
 use Rattle.form_laws.proofs.Each.{row-length}
 use Rattle.form_laws.proofs.Walk.{Walk, end, chunk, instr, other}
 use Rattle.form_laws.proofs.Front.{code-chunk, code-instr, code-other, chunks-chunk, chunks-other}
@@ -91,6 +91,19 @@ module _ (s : List ℕ) (w : ℕ) where
   walk-small (chunk c k) l m x y = walk-small k (omega (arith, c .fine .long, c .fine .params)) (c .fits) (c .fine .locals) (c .fine .stack)
   walk-small (instr c k) l m x y = walk-small k (omega (arith, c .fine .len)) (c .fits) x y
   walk-small (other j n c k) l m x y = walk-small k (omega arith) (c .fits) x y
+
+  -- each instruction has its bytes behind p: those of the code up to the next chunk, and those of the chunks
+  pub walk-instrs : {p : ℕ} {ps : List ℕ} {t : Scan} → Walk s w p ps t → p ≤ length s
+      → p + 18 * (length (codeAfter s ps) + instrsIn (chunksFrom s (t .signatures) (t .seen) ps)) ≤ length s
+  unfolding nextAt codeAfter chunksFrom chunkFrom instrsIn
+  walk-instrs (end h) l = omega arith
+  walk-instrs (chunk {p} {ps} {t} c k) l =
+      rw (code-chunk s p ps (c .tag), chunks-chunk s p ps (t .signatures) (t .seen) (c .tag)) (omega (arith, walk-instrs k (c .fits)))
+  walk-instrs (instr {p} {ps} {t} c k) l =
+      rw (code-instr s p ps (c .tag), chunks-other s p ps (t .signatures) (t .seen) (omega (arith, c .tag))) (omega (arith, c .fine .len, walk-instrs k (c .fits)))
+  walk-instrs (other {p} {ps} {t} j n c k) l =
+      rw (code-other s p ps (omega (arith, c .tag, c .past)), chunks-other s p ps (t .signatures) (t .seen) (omega (arith, c .tag, c .past)))
+      (omega (arith, walk-instrs k (c .fits)))
 
   -- no more instructions up to the next chunk than a chunk may have
   pub walk-code : {p : ℕ} {ps : List ℕ} {t : Scan} → Walk s w p ps t → t .instrs ≤ 4096 → t .instrs + length (codeAfter s ps) ≤ 4096

@@ -1,5 +1,5 @@
 -- THEOREM: a description of good form has all that `Good` says.
-use Prim.Native.Nat.{ℕ, _+_, _<_}
+use Prim.Native.Nat.{ℕ, _+_, _*_, _<_, _≤_}
 use native.Mathlib.Omega.{arith}
 use native.Mathlib.Nat.{zero-add}
 use mathlib.Core.Path.{_≡_, refl, sym, ap, _∙_}
@@ -14,12 +14,12 @@ use Rattle.definition.specs.declared.Form.the-variants.{Fine}
 use Rattle.definition.specs.Module.{Module, Chunk, lineOf, signedParams, codeAfter, chunkFrom, chunksFrom, moduleFrom, moduleOf}
 use Rattle.definition.specs.Leaves.{noLine, lineAt}
 use Rattle.definition.specs.Form.{pastChunk, formOf}
-use Rattle.form_laws.specs.Good.{noChunk, chunkNo, wordsOf, LineGood, ChunkGood, Good}
+use Rattle.form_laws.specs.Good.{noChunk, chunkNo, wordsOf, instrsIn, instrBytes, LineGood, ChunkGood, Good}
 use Rattle.form_laws.proofs.Each.{All, all-at, all-map, Each, each-at, row-length}
 use Rattle.form_laws.proofs.Faults.{Fits, tableLen, tableMost}
 use Rattle.form_laws.proofs.Walk.{paramsThen, AtChunk, Walk, end, chunk, instr, other, Starts, starts}
 use Rattle.form_laws.proofs.Front.{code-chunk, code-instr, code-other, chunks-chunk, chunks-other, tag-other}
-use Rattle.form_laws.proofs.Sums.{paramsOfAll, lastLook, walk-look, walk-chunks, walk-cells, walk-small, walk-code, no-code}
+use Rattle.form_laws.proofs.Sums.{paramsOfAll, lastLook, walk-look, walk-chunks, walk-cells, walk-small, walk-instrs, walk-code, no-code}
 use Rattle.form_laws.proofs.Tables.{Table, table-rows}
 use Rattle.form_laws.proofs.Ordered.{all-ordered}
 use Rattle.form_laws.proofs.Late.{Late, late-all, late-line, chunk-params, params-are}
@@ -119,6 +119,9 @@ module _ (s : List ℕ) (w : ℕ) (st : Starts s w) where
   unfolding wordsOf moduleOf moduleFrom
   words = rw chunks-rest (omega (arith, ap length (no-code s w (st .walk) (omega arith)), walk-cells s w (st .walk)))
 
+  instrs : instrBytes * instrsIn (moduleOf s .chunks) ≤ length s
+  instrs = rw chunks-rest (omega (arith, walk-instrs s w (st .walk) (st .fits)))
+
   each : Each (ChunkGood (moduleOf s)) 0 (chunksFrom s (headerOf s 0 .signatures) 0 (st .rest))
   unfolding moduleOf moduleFrom
   each = chunks-good s w (moduleOf s) (st .walk) refl late-rest
@@ -153,6 +156,7 @@ module _ (s : List ℕ) (w : ℕ) (st : Starts s w) where
         inits = rw length-map (inits .count);
         words = words;
         small = omega (arith, st .long, walk-small s w (st .walk) (omega (arith, f .slots, f .len)) (st .fits) (omega arith) (omega arith));
+        instrs = instrs;
         eachChunk = each-chunk;
         nativeAt = λ k h. natives .place k (rw length-map at h);
         sharedAt = λ k h. shared .place k (rw length-map at h);

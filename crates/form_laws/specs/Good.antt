@@ -1,5 +1,5 @@
--- What good form says of the module: W is document 01's sum, the numbers keep their largest values, every instruction fits, and the tables
--- of natives and shared slots have fields of one size from their first on.
+-- What good form says of the module: W is document 01's sum, the numbers keep their largest values, every instruction fits and has its bytes
+-- in the description, and the tables of natives and shared slots have fields of one size from their first on.
 use Prim.Native.Nat.{ℕ, _+_, _*_, _<_, _≤_}
 use mathlib.Core.Path.{_≡_}
 use mathlib.Core.Bool.{true, false}
@@ -51,6 +51,14 @@ cellsIn (c ∷ cs) = chunkCells c + cellsIn cs
 unfoldable pub wordsOf : Module → ℕ
 wordsOf m = 16 * (cellsIn (m .chunks) + m .slots + 4)
 
+-- ---- the instructions of all chunks, and the bytes that each has in the description: tag, length, and the fifteen of its field
+unfoldable pub instrsIn : List Chunk → ℕ
+instrsIn [] = 0
+instrsIn (c ∷ cs) = length (c .code) + instrsIn cs
+
+abbrev pub instrBytes : ℕ
+instrBytes = 18
+
 -- ---- an instruction that fits its module and chunk
 pub record LineGood (m : Module) (c : Chunk) (x : Line) : Type 0 where
   pub op : x .instr .op ≤ 65
@@ -101,6 +109,8 @@ pub record Good (s : List ℕ) (w : ℕ) : Type 0 where
   pub inits : length (moduleOf s .inits) ≤ mostFields
   pub words : w ≡ wordsOf (moduleOf s)
   pub small : w < 4294967296
+  -- so few instructions that what is said of each, 32 bits count
+  pub instrs : instrBytes * instrsIn (moduleOf s .chunks) ≤ length s
   pub eachChunk : (n : ℕ) → n < length (moduleOf s .chunks) → ChunkGood (moduleOf s) n (chunkNo (moduleOf s) n)
   -- fields of one size, from the first on
   pub nativeAt : (k : ℕ) → k < length (moduleOf s .natives) → getD (ofTag 5 s (fieldsFrom s 0)) k 0 ≡ getD (ofTag 5 s (fieldsFrom s 0)) 0 0 + 11 * k

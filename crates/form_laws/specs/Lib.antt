@@ -1,2 +1,4 @@
 pub mod Order
 pub mod Good
+pub mod Places
+pub mod Admitted

@@ -1,6 +1,7 @@
 -- The laws of a flat join, over any test that says exactly equality.
 use mathlib.Core.Path.{_≡_, refl, sym, ap, _∙_}
-use mathlib.Core.Bool.{Bool, true, false, true≢false}
+use mathlib.Core.Logic.{_⊎_, inl, inr}
+use mathlib.Core.Bool.{Bool, true, false, cond, true≢false}
 use Rattle.widths.specs.Width.{flat}
 use Rattle.join_laws.specs.Join.{Joins, Equals}
 
@@ -42,3 +43,11 @@ module _ {A : Type 0} (same : A → A → Bool) (top : A) (equal : Equals same) 
 
   pub flat-joins : Joins (flat same top)
   flat-joins = record { idem = λ x. rw (equal .whole x); comm = flat-comm; assoc = flat-assoc }
+
+  -- what takes in another is the other, or the top
+  pub flat-kept : (x y : A) → flat same top x y ≡ x → (x ≡ top) ⊎ (y ≡ x)
+  flat-kept x y h = go (same x y) refl h
+    where
+      go : (t : Bool) → same x y ≡ t → cond t x top ≡ x → (x ≡ top) ⊎ (y ≡ x)
+      go true e h = inr (sym (equal .sound x y e))
+      go false e h = inl (sym h)

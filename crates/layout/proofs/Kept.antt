@@ -20,18 +20,8 @@ use Rattle.definition.specs.Module.{Module, moduleOf}
 use Rattle.form_laws.specs.Good.{chunkNo, rowCells, wordsOf}
 use Rattle.layout.specs.Layout.{areaCells, areaOf, numbersAt, slotAt, rowsAt, rowAt, rowField, wordAt, wordSuspends}
 use Rattle.layout.specs.Indexed.{Indexed, NumbersHold, suspendsAt, chunkAt}
+use Rattle.layout.specs.Kept.{Kept, Steady}
 use Rattle.layout.proofs.Apart.{by-order, row-before, area-apart, areas-behind, slots-first, numbers-in, slots-in, rows-begin, row-begins, row-apart, row-in-area, row-in, rows-in-area, slots-behind}
-
-pub record Kept (m : Module) (ws v : List ℕ) : Type 0 where
-  pub long : length v ≡ length ws
-  pub numbers : (n k : ℕ) → n < length (m .chunks) → k < 10 → (k ≡ 6 → ⊥) → getD v (numbersAt n + k) 0 ≡ getD ws (numbersAt n + k) 0
-  pub fields : (n i : ℕ) → n < length (m .chunks) → i < length (chunkNo m n .code) → getD v (rowAt m n i + rowField) 0 ≡ getD ws (rowAt m n i + rowField) 0
-  pub marks : (n : ℕ) → n < m .slots → getD v (slotAt m n + 15) 0 / 65536 ≡ getD ws (slotAt m n + 15) 0 / 65536
-
--- and which chunks suspend stays too
-pub record Steady (m : Module) (ws v : List ℕ) : Type 0 where
-  pub kept : Kept m ws v
-  pub suspends : (n : ℕ) → n < length (m .chunks) → getD v (numbersAt n + wordSuspends) 0 ≡ getD ws (numbersAt n + wordSuspends) 0
 
 -- ---- what is kept
 numbers-keep : (s ws v : List ℕ) (n : ℕ) → n < length (moduleOf s .chunks) → Kept (moduleOf s) ws v → NumbersHold s ws n → NumbersHold s v n

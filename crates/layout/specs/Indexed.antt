@@ -15,7 +15,7 @@ use Rattle.definition.specs.Module.{Native, moduleOf}
 use Rattle.definition.specs.Data.{isBody}
 use Rattle.definition.specs.Leaves.{streams}
 use Rattle.definition.specs.Start.{initMask, hasSite}
-use Rattle.form_laws.proofs.Places.{Placed, places, noPlace}
+use Rattle.form_laws.specs.Places.{Placed, places, noPlace}
 use Rattle.form_laws.specs.Good.{Good, chunkNo, noShape, rowCells, wordsOf}
 use Rattle.layout.specs.declared.Tables.{Tables}
 use Rattle.layout.specs.declared.Chunk.{Chunk as ChunkNumbers}

@@ -1,3 +1,4 @@
 pub mod Layout
 pub mod Indexed
 pub mod Read
+pub mod Kept

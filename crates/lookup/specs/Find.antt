@@ -45,10 +45,14 @@ names c i e = eqb (e .chunk) c && eqb (e .instruction) i
 unfoldable pub namesAt : List ℕ → ℕ → ℕ → ℕ → Bool
 namesAt s c i p = isRecord s p && names c i (entryAt s p)
 
+-- the part that an entry names
+abbrev pub partOf : Entry → Part
+partOf e = record { first = e .first; size = e .length }
+
 -- the first of the records that names them; else this part
 unfoldable pub firstOf : Part → ℕ → ℕ → List Entry → Part
 firstOf other c i [] = other
-firstOf other c i (e ∷ es) = cond (names c i e) (record { first = e .first; size = e .length }) (firstOf other c i es)
+firstOf other c i (e ∷ es) = cond (names c i e) (partOf e) (firstOf other c i es)
 
 unfoldable pub found : List ℕ → ℕ → ℕ → Part
 found s c i = firstOf (atEnd s) c i (entriesIn s)

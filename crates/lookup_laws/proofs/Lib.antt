@@ -1,5 +1,4 @@
 pub mod Named
-pub mod Rising
 pub mod Entries
 pub mod Shown
 pub mod Theorem

@@ -5,14 +5,13 @@ use native.Mathlib.Omega.{arith}
 use mathlib.Core.Path.{_≡_, refl, sym, _∙_, ap}
 use mathlib.Core.Logic.{_⊎_, inl, inr}
 use mathlib.Core.Bool.{Bool, true, _&&_, _||_, or-true}
-use mathlib.Core.List.{List, [], _∷_, _++_}
+use mathlib.Core.List.{List, [], _∷_, _++_, List·Memᴰ·head}
 use lib.Dec.{eqb, ltb}
 use lib.ListN.{length, take, drop, length-append}
 use lib.Seq.{take-at}
 use borrow.Author.Tests.{eq-eqb, lt-ltb, le-ltb}
 use Rattle.le.specs.Le.{le16, le32}
 use Rattle.answers.specs.declared.IndexedAnswer.the-variants.{Accepted}
-use Rattle.machine_laws.proofs.All.{cons}
 use Rattle.lookup.specs.declared.Entry.{Entry}
 use Rattle.lookup.specs.Find.{entriesIn}
 use Rattle.report_index.specs.Index.{entryBytes, indexBytes, entryNo, entriesNo, entriesOf, isBefore, rises, matched, agrees}
@@ -27,8 +26,8 @@ use Rattle.report_laws.proofs.Reports.{decided-back}
 use Rattle.refusal_laws.proofs.Indexed.{indexed-left}
 use Rattle.consistent.proofs.Accepted.{accepted-left, left-bytes}
 use Rattle.lookup_laws.specs.Entries.{entriesOn, recordEntries}
-use Rattle.lookup_laws.proofs.Named.{Rising}
-use Rattle.lookup_laws.proofs.Rising.{decided-rises}
+use Rattle.consistent.specs.Rising.{Rising}
+use Rattle.consistent.proofs.Theorem.{consistent}
 use Rattle.lookup_laws.proofs.Entries.{record-long, report-laid, report-entries}
 
 -- ---- how long it is
@@ -89,8 +88,8 @@ rises-on : (p : ℕ) (xs : List Record) → Rising xs → rises (entriesOn p xs)
 unfolding entriesOn rises isBefore
 rises-on p [] h = refl
 rises-on p (x ∷ []) h = refl
-rises-on p (x ∷ (y ∷ ys)) (cons b a, k) =
-    rw (before (x .chunk) (y .chunk) (x .instruction) (y .instruction) b) (rises-on (p + length (recordBytes x)) (y ∷ ys) k)
+rises-on p (x ∷ (y ∷ ys)) h =
+    rw (before (x .chunk) (y .chunk) (x .instruction) (y .instruction) (h .0 y (List·Memᴰ·head refl))) (rises-on (p + length (recordBytes x)) (y ∷ ys) (h .1))
 
 -- ---- a list is, one for one, itself
 matched-own : (es : List Entry) → matched es es ≡ true
@@ -134,7 +133,7 @@ module _ (s ws buf idx : List ℕ) (limit long steps n : ℕ) (h : callIndexed s
   pub accepted-own : agrees (take long (callIndexed s ws buf idx limit .report)) (take n (callIndexed s ws buf idx limit .index)) ≡ true
   accepted-own =
       let d = accepted-both in
-      rw (d .bytes, d .index) (own-agrees (d .report) (decided-rises s (length ws) limit steps (d .report) (d .decides)))
+      rw (d .bytes, d .index) (own-agrees (d .report) (consistent s (length ws) limit (d .report) steps (d .decides) .arrives .rising))
 
   -- THEOREM: the index lists the records of the report
   pub accepted-entries : entriesOf (take n (callIndexed s ws buf idx limit .index)) ≡ recordEntries (readReport (take long (callIndexed s ws buf idx limit .report)))

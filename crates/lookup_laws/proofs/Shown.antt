@@ -13,14 +13,9 @@ use Rattle.report_laws.proofs.Has.{Has, has-left, has-right}
 use Rattle.lookup.specs.declared.Part.{Part}
 use Rattle.lookup.specs.Find.{part, atEnd, names, firstOf, found}
 use Rattle.lookup_laws.specs.Entries.{entriesOn, recordsAt, recordEntries}
+use Rattle.lookup_laws.specs.Looked.{Holds}
 use Rattle.lookup_laws.proofs.Named.{isOf, named}
 use Rattle.lookup_laws.proofs.Entries.{report-laid}
-
--- a part that is these bytes, inside
-pub record Holds (s : List ℕ) (x : Part) (bs : List ℕ) : Type 0 where
-  pub inside : x .first + x .size ≤ length s
-  pub size : x .size ≡ length bs
-  pub bytes : part s x ≡ bs
 
 -- the whole field of a record; for none the empty part at the end
 unfoldable pub Shown : List ℕ → Part → Option Record → Type 0

@@ -10,15 +10,11 @@ use Rattle.report_laws.specs.Read.{readReport}
 use Rattle.report_laws.proofs.Reports.{decided-back}
 use Rattle.consistent.proofs.Accepted.{accepted-left, left-bytes}
 use Rattle.lookup.specs.Find.{atEnd, found}
-use Rattle.lookup_laws.proofs.Named.{Rising, named-listed, named-none}
-use Rattle.lookup_laws.proofs.Rising.{decided-rises}
-use Rattle.lookup_laws.proofs.Shown.{Holds, Shown, report-shown}
-
--- bytes in which each record of a report is found by its numbers, and nothing by others
-pub record Looked (bs : List ℕ) (r : Report) : Type 0 where
-  pub rising : Rising (r .records)
-  pub listed : (x : Record) → List·Memᴰ x (r .records) → Holds bs (found bs (x .chunk) (x .instruction)) (recordBytes x)
-  pub other : (c i : ℕ) → ((x : Record) → List·Memᴰ x (r .records) → x .chunk ≡ c → x .instruction ≡ i → ⊥) → found bs c i ≡ atEnd bs
+use Rattle.consistent.specs.Rising.{Rising}
+use Rattle.consistent.proofs.Theorem.{consistent}
+use Rattle.lookup_laws.proofs.Named.{named-listed, named-none}
+use Rattle.lookup_laws.specs.Looked.{Looked}
+use Rattle.lookup_laws.proofs.Shown.{Shown, report-shown}
 
 -- for any report whose records rise
 pub looked : (r : Report) → Rising (r .records) → Looked (reportBytes r) r
@@ -31,7 +27,7 @@ looked r h = record {
 
 -- so for every report that the definition decides on
 pub decided-looked : (s : List ℕ) (words limit n : ℕ) (r : Report) → decide s words limit ≡ reported r n → Looked (reportBytes r) r
-decided-looked s words limit n r e = looked r (decided-rises s words limit n r e)
+decided-looked s words limit n r e = looked r (consistent s words limit r n e .arrives .rising)
 
 -- and for the first `long` bytes of an accepted call's buffer
 pub accepted-looked : (s ws buf : List ℕ) (limit long steps : ℕ) → call s ws buf limit .answer ≡ Accepted long steps

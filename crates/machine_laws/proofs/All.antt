@@ -1,12 +1,10 @@
--- Something holds of each element of a list.
-use Prim.Native.Nat.{ℕ, zero, suc}
+-- What holds of each element of a list holds of those of its parts, and of what is made of it.
+use Prim.Native.Nat.{ℕ, zero, suc, _<_}
+use native.Mathlib.Omega.{arith}
 use mathlib.Core.Option.{Option, none, some}
-use mathlib.Core.List.{List, [], _∷_, _++_, map}
-use lib.ListN.{getD, set, replicate, take, drop}
-
-pub data All {A : Type 0} (P : A → Type 0) : List A → Type 0 where
-  nil : All P []
-  cons : {x : A} {xs : List A} → P x → All P xs → All P (x ∷ xs)
+use mathlib.Core.List.{List, [], _∷_, _++_, map, List·Memᴰ, List·Memᴰ·head, List·Memᴰ·tail}
+use lib.ListN.{length, getD, set, replicate, take, drop}
+pub use Rattle.machine_laws.specs.All.{All, nil, cons}
 
 module _ {A : Type 0} (P : A → Type 0) where
   pub all-append : {xs ys : List A} → All P xs → All P ys → All P (xs ++ ys)
@@ -36,6 +34,15 @@ module _ {A : Type 0} (P : A → Type 0) where
   all-drop zero a = a
   all-drop (suc n) nil = nil
   all-drop (suc n) (cons p a) = all-drop n a
+
+-- place by place, and of a member
+pub all-of : {A : Type 0} (P : A → Type 0) (d : A) (xs : List A) → ((i : ℕ) → i < length xs → P (getD xs i d)) → All P xs
+all-of P d [] h = nil
+all-of P d (x ∷ xs) h = cons (h 0 (omega arith)) (all-of P d xs (λ i l. h (suc i) (omega arith)))
+
+pub all-mem : {A : Type 0} {P : A → Type 0} {x : A} {xs : List A} → All P xs → List·Memᴰ x xs → P x
+all-mem {P = P} (cons p a) (List·Memᴰ·head e) = rw e p
+all-mem (cons p a) (List·Memᴰ·tail m) = all-mem a m
 
 pub all-map : {A B : Type 0} {P : A → Type 0} (Q : B → Type 0) (f : A → B) {xs : List A} → ((x : A) → P x → Q (f x)) → All P xs → All Q (map f xs)
 all-map Q f h nil = nil

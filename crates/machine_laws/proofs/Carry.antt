@@ -44,7 +44,7 @@ module _ {S : Type 0} (P : S → Type 0) where
     puts-ok w v (o ∷ os) e h (cons p ps) =
         bind-use (put join cap w o) _ e λ u a e′. puts-ok u v os e′ (putIn-ok w u (o .0) (o .1) (ltb (o .0) (length (w .states))) a h p) ps
 
--- what is kept: of states, of facts between chunks, of a round's facts, of gifts; C is what holds of the chunks
+-- what is kept: of states, of facts between chunks, of a round's facts, of gifts; C is what holds of the chunks. Only reachable ones are visited
 module _ {C F R S G : Type 0} (join : S → S → Res (Joined S)) (cap : ℕ) (chunks : List C) (reachable : C → Bool)
     (start : C → R → List (Option S)) (after : C → List (Option S) → Option (ℕ × ℕ))
     (open′ : R → F) (view : F → R) (absorb : F → G → F) (moved : F → Bool) (close : F → R)
@@ -56,7 +56,7 @@ module _ {C F R S G : Type 0} (join : S → S → Res (Joined S)) (cap : ℕ) (c
     pub viewed : (f : F) → L f → Q (view f)
     pub closes : (f : F) → L f → Q (close f)
     pub absorbs : (f : F) (g : G) → L f → T g → L (absorb f g)
-    pub left : (v : Bool) (c : C) (r : R) (i : ℕ) (s : S) (e : Effect S G) → leaves v c r i s ≡ ok e → K c → Q r → P s → All (λ o. P (o .1)) (e .ways) × T (e .gives)
+    pub left : (v : Bool) (c : C) (r : R) (i : ℕ) (s : S) (e : Effect S G) → leaves v c r i s ≡ ok e → reachable c ≡ true → K c → Q r → P s → All (λ o. P (o .1)) (e .ways) × T (e .gives)
 
   module _ (P : S → Type 0) (Q : R → Type 0) (L : F → Type 0) (T : G → Type 0) (K : C → Type 0) (keeps : Keeps P Q L T K) (all : All K chunks) where
     adds-ok : (v : Bool) (f : F) (g : G) → L f → T g → L (adds join cap chunks reachable start after open′ view absorb moved close leaves v f g)
@@ -65,6 +65,7 @@ module _ {C F R S G : Type 0} (join : S → S → Res (Joined S)) (cap : ℕ) (c
     adds-ok false f g h t = keeps .absorbs f g h t
 
     record MachineOk (m : Machine C F S) : Type 0 where
+      reached : reachable (m .chunk) ≡ true
       chunk-ok : K (m .chunk)
       rest-ok : All K (m .rest)
       past-ok : All (All (Opt P)) (m .past)
@@ -87,13 +88,13 @@ module _ {C F R S G : Type 0} (join : S → S → Res (Joined S)) (cap : ℕ) (c
     unfolding enter
     enter-ok v end k n f past [] h p a = k f past h p
     enter-ok v end k n f past (c ∷ cs) h p (cons q a) =
-        go (reachable c) (enter-ok v end k (suc n) f (past ++ ([] ∷ [])) cs h (all-append (All (Opt P)) p (cons nil nil)) a)
+        go (reachable c) refl (enter-ok v end k (suc n) f (past ++ ([] ∷ [])) cs h (all-append (All (Opt P)) p (cons nil nil)) a)
       where
-        go : (b : Bool) → WhereOk (enter join cap chunks reachable start after open′ view absorb moved close leaves v end (suc n) f (past ++ ([] ∷ [])) cs)
+        go : (b : Bool) → reachable c ≡ b → WhereOk (enter join cap chunks reachable start after open′ view absorb moved close leaves v end (suc n) f (past ++ ([] ∷ [])) cs)
             → WhereOk (cond b (due (record { validating = v; number = n; chunk = c; rest = cs; past = past; states = start c (view f); queue = 0 ∷ []; facts = f }))
             (enter join cap chunks reachable start after open′ view absorb moved close leaves v end (suc n) f (past ++ ([] ∷ [])) cs))
-        go true e = record { chunk-ok = q; rest-ok = a; past-ok = p; states-ok = keeps .starts c (view f) q (keeps .viewed f h); facts-ok = h }
-        go false e = e
+        go true r e = record { reached = r; chunk-ok = q; rest-ok = a; past-ok = p; states-ok = keeps .starts c (view f) q (keeps .viewed f h); facts-ok = h }
+        go false r e = e
 
     finish-ok : (f : F) (past : List (List (Option S))) → L f → All (All (Opt P)) past
         → WhereOk (finish join cap chunks reachable start after open′ view absorb moved close leaves f past)
@@ -125,13 +126,13 @@ module _ {C F R S G : Type 0} (join : S → S → Res (Joined S)) (cap : ℕ) (c
 
     visitAt-ok : (v : Bool) (c : C) (f : F) (st : List (Option S)) (q : List ℕ) (i : ℕ) (o : Option S) (r : Seen F S)
         → visitAt join cap view (adds join cap chunks reachable start after open′ view absorb moved close leaves v) (leaves v c) f st q i o ≡ ok r
-        → K c → L f → All (Opt P) st → Opt P o → L (r .facts) × All (Opt P) (r .work .states)
+        → reachable c ≡ true → K c → L f → All (Opt P) st → Opt P o → L (r .facts) × All (Opt P) (r .work .states)
     unfolding visitAt
-    visitAt-ok v c f st q i none r e k h a p = rw (← ok-inj e) (h, a)
-    visitAt-ok v c f st q i (some s) r e k h a p =
+    visitAt-ok v c f st q i none r e u k h a p = rw (← ok-inj e) (h, a)
+    visitAt-ok v c f st q i (some s) r e u k h a p =
         bind-use (leaves v c (view f) i s) _ e λ x l e₁.
         bind-use (puts join cap (record { states = st; queue = q }) (x .ways)) _ e₁ λ w m e₂.
-        let (ws, g) = keeps .left v c (view f) i s x l k (keeps .viewed f h) p in
+        let (ws, g) = keeps .left v c (view f) i s x l u k (keeps .viewed f h) p in
         rw (← ok-inj e₂) (adds-ok v f (x .gives) h g, puts-ok P join cap (keeps .joined) _ w (x .ways) m a ws)
 
     onSeen-ok : (m : Machine C F S) (i : ℕ) (o : Res (Seen F S)) → ((r : Seen F S) → o ≡ ok r → L (r .facts) × All (Opt P) (r .work .states)) → MachineOk m
@@ -139,14 +140,14 @@ module _ {C F R S G : Type 0} (join : S → S → Res (Joined S)) (cap : ℕ) (c
     unfolding onSeen
     onSeen-ok m i (bad n) k h = tt
     onSeen-ok m i (ok r) k h =
-        settled-ok _ (r .work .queue) (record { chunk-ok = h .chunk-ok; rest-ok = h .rest-ok; past-ok = h .past-ok; states-ok = k r refl .1; facts-ok = k r refl .0 })
+        settled-ok _ (r .work .queue) (record { reached = h .reached; chunk-ok = h .chunk-ok; rest-ok = h .rest-ok; past-ok = h .past-ok; states-ok = k r refl .1; facts-ok = k r refl .0 })
 
     takes-ok : (m : Machine C F S) (q : List ℕ) → MachineOk m → WhereOk (takes join cap chunks reachable start after open′ view absorb moved close leaves m q)
     unfolding takes visit
     takes-ok m [] h = settle-ok m (m .validating) h
     takes-ok m (i ∷ q) h =
         onSeen-ok m i _
-        (λ r e. visitAt-ok (m .validating) (m .chunk) (m .facts) (m .states) q i (getD (m .states) i none) r e (h .chunk-ok) (h .facts-ok) (h .states-ok)
+        (λ r e. visitAt-ok (m .validating) (m .chunk) (m .facts) (m .states) q i (getD (m .states) i none) r e (h .reached) (h .chunk-ok) (h .facts-ok) (h .states-ok)
         (all-get (Opt P) i {d = none} tt (h .states-ok))) h
 
     onNext-ok : (more : Machine C F S → Ran R S) (steps n : ℕ) (w : Where C F R S) (x : Final R S)

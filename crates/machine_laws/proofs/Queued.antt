@@ -6,7 +6,7 @@ use mathlib.Core.Option.{Option, none, some}
 use mathlib.Core.List.{List, [], _∷_, _++_}
 use Rattle.definition.specs.Res.{Res, ok, bad}
 use Rattle.definition.specs.Machine.{Joined, Effect, Seen, Machine, Where, due, done, stop, enter, finish, endRound, ending, onward, settle, settled, onSeen, takes, next, begun}
-use Rattle.machine_laws.proofs.Takings.{after-takings}
+use Rattle.machine_laws.specs.Takings.{after-takings}
 
 abbrev pub Queued : {C F R S : Type 0} → Where C F R S → Type 0
 Queued (due m) = (i : ℕ) × (q : List ℕ) × (m .queue ≡ i ∷ q)

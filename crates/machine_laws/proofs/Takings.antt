@@ -11,6 +11,7 @@ use Rattle.answers.specs.declared.Refusal.{Refusal}
 use Rattle.definition.specs.Res.{Res}
 use Rattle.answers.specs.Answers.{refusal}
 use Rattle.definition.specs.Machine.{Joined, Effect, Machine, Final, Stop, Where, due, done, stop, Ran, accepted, refused, halt, next, entryDue, onNext, run, begun, check}
+use Rattle.machine_laws.specs.Takings.{Due, after-takings, takings, says, Counted, Spent}
 use Rattle.machine_laws.proofs.Sweep.{refused≢accepted, accepted-inj, Goes}
 
 pub done≢due : {C F R S : Type 0} {x : Final R S} {m : Machine C F S} → _≡_ {A = Where C F R S} (done x) (due m) → ⊥
@@ -19,10 +20,7 @@ done≢due h = let z : _≡_ {A = ℕ} 0 1 = cc in omega arith
 pub stop≢due : {C F R S : Type 0} {x : Stop} {m : Machine C F S} → _≡_ {A = Where C F R S} (stop x) (due m) → ⊥
 stop≢due h = let z : _≡_ {A = ℕ} 0 1 = cc in omega arith
 
--- an entry is due; the run is over
-abbrev pub Due : {C F R S : Type 0} → Where C F R S → Type 0
-Due {C} {F} {R} {S} w = (m : Machine C F S) × (w ≡ due m)
-
+-- the run is over
 abbrev pub Over : {C F R S : Type 0} → Where C F R S → Type 0
 Over (due m) = ⊥
 Over (done x) = Unit {0}
@@ -39,30 +37,19 @@ module _ {C F R S G : Type 0}
   abbrev Next : Machine C F S → Where C F R S
   Next = next join cap chunks reachable start after open′ view absorb moved close leaves
 
-  -- where the machine stands after k takings, or where it ended
-  unfoldable pub after-takings : ℕ → Where C F R S → Where C F R S
-  after-takings zero w = w
-  after-takings (suc k) (due m) = after-takings k (Next m)
-  after-takings (suc k) (done x) = done x
-  after-takings (suc k) (stop x) = stop x
+  abbrev After : ℕ → Where C F R S → Where C F R S
+  After = after-takings join cap chunks reachable start after open′ view absorb moved close leaves
 
-  -- how many takings that is
-  unfoldable pub takings : ℕ → Where C F R S → ℕ
-  takings zero w = 0
-  takings (suc k) (due m) = suc (takings k (Next m))
-  takings (suc k) (done x) = 0
-  takings (suc k) (stop x) = 0
+  abbrev Takings : ℕ → Where C F R S → ℕ
+  Takings = takings join cap chunks reachable start after open′ view absorb moved close leaves
 
-  -- what is answered there: 7 where an entry is still due
-  unfoldable pub says : ℕ → Where C F R S → Ran R S
-  says n (due m) = refused (refusal 7 (m .number) (entryDue join cap chunks reachable start after open′ view absorb moved close leaves (m .queue)) n)
-  says n (done x) = accepted x n
-  says n (stop x) = refused (refusal (x .number) (x .chunk) (x .instruction) n)
+  abbrev Says : ℕ → Where C F R S → Ran R S
+  Says = says join cap chunks reachable start after open′ view absorb moved close leaves
 
   abbrev Going : ℕ → ℕ → Where C F R S → Ran R S
   Going = Goes join cap chunks reachable start after open′ view absorb moved close leaves
 
-  pub goes-is : (left steps : ℕ) (w : Where C F R S) → Going left steps w ≡ says (steps + takings left w) (after-takings left w)
+  pub goes-is : (left steps : ℕ) (w : Where C F R S) → Going left steps w ≡ Says (steps + Takings left w) (After left w)
   unfolding run onNext says takings after-takings
   goes-is zero steps (due m) = rw add-zero
   goes-is zero steps (done x) = rw add-zero
@@ -72,14 +59,14 @@ module _ {C F R S G : Type 0}
   goes-is (suc left) steps (stop x) = rw add-zero
 
   -- a run of a + b takings is a run of b after a
-  pub goes-split : (a b steps : ℕ) (w : Where C F R S) → Going (a + b) steps w ≡ Going b (steps + takings a w) (after-takings a w)
+  pub goes-split : (a b steps : ℕ) (w : Where C F R S) → Going (a + b) steps w ≡ Going b (steps + Takings a w) (After a w)
   unfolding run onNext takings after-takings
   goes-split zero b steps w = rw (zero-add, add-zero)
   goes-split (suc a) b steps (due m) = rw (suc-add, add-suc, ← suc-add) (goes-split a b (suc steps) (Next m))
   goes-split (suc a) b steps (done x) = rw add-zero
   goes-split (suc a) b steps (stop x) = rw add-zero
 
-  pub takings-most : (k : ℕ) (w : Where C F R S) → takings k w ≤ k
+  pub takings-most : (k : ℕ) (w : Where C F R S) → Takings k w ≤ k
   unfolding takings
   takings-most zero w = omega arith
   takings-most (suc k) (due m) = let l = takings-most k (Next m) in omega arith
@@ -87,7 +74,7 @@ module _ {C F R S G : Type 0}
   takings-most (suc k) (stop x) = omega arith
 
   -- all are taken where an entry is still due
-  pub takings-due : (k : ℕ) (w : Where C F R S) (m : Machine C F S) → after-takings k w ≡ due m → takings k w ≡ k
+  pub takings-due : (k : ℕ) (w : Where C F R S) (m : Machine C F S) → After k w ≡ due m → Takings k w ≡ k
   unfolding takings after-takings
   takings-due zero w m h = refl
   takings-due (suc k) (due m′) m h = ap suc (takings-due k (Next m′) m h)
@@ -95,7 +82,7 @@ module _ {C F R S G : Type 0}
   takings-due (suc k) (stop x) m h = absurd (stop≢due h)
 
   -- the last taking ends the run
-  pub takings-end : (k : ℕ) (w : Where C F R S) → after-takings (takings k w) w ≡ after-takings k w
+  pub takings-end : (k : ℕ) (w : Where C F R S) → After (Takings k w) w ≡ After k w
   unfolding takings after-takings
   takings-end zero w = refl
   takings-end (suc k) (due m) = takings-end k (Next m)
@@ -103,7 +90,7 @@ module _ {C F R S G : Type 0}
   takings-end (suc k) (stop x) = refl
 
   -- before it an entry is due
-  pub due-before : (k j : ℕ) (w : Where C F R S) → j < takings k w → Due (after-takings j w)
+  pub due-before : (k j : ℕ) (w : Where C F R S) → j < Takings k w → Due (After j w)
   unfolding takings after-takings
   due-before zero j w l = absurd (omega arith)
   due-before (suc k) zero (due m) l = (m, refl)
@@ -114,8 +101,8 @@ module _ {C F R S G : Type 0}
   due-before (suc k) (suc j) (stop x) l = absurd (omega arith)
 
   -- more takings change nothing once the run is over
-  pub takings-over : (k k′ : ℕ) (w : Where C F R S) → k ≤ k′ → Over (after-takings k w)
-      → (after-takings k′ w ≡ after-takings k w) × (takings k′ w ≡ takings k w)
+  pub takings-over : (k k′ : ℕ) (w : Where C F R S) → k ≤ k′ → Over (After k w)
+      → (After k′ w ≡ After k w) × (Takings k′ w ≡ Takings k w)
   unfolding takings after-takings
   takings-over zero zero w l h = (refl, refl)
   takings-over zero (suc k′) (due m) l h = absurd h
@@ -127,7 +114,7 @@ module _ {C F R S G : Type 0}
   takings-over (suc k) (suc k′) (stop x) l h = (refl, refl)
 
   -- ---- what is said, inverted
-  pub says-accepted : (n : ℕ) (w : Where C F R S) (x : Final R S) (k : ℕ) → says n w ≡ accepted x k → (w ≡ done x) × (n ≡ k)
+  pub says-accepted : (n : ℕ) (w : Where C F R S) (x : Final R S) (k : ℕ) → Says n w ≡ accepted x k → (w ≡ done x) × (n ≡ k)
   unfolding says
   says-accepted n (due m) x k h = absurd (refused≢accepted h)
   says-accepted n (done y) x k h = let (e, p) = accepted-inj h in (ap done e, p)
@@ -139,7 +126,7 @@ module _ {C F R S G : Type 0}
       ((m : Machine C F S) × (w ≡ due m) × (ρ ≡ refusal 7 (m .number) (entryDue join cap chunks reachable start after open′ view absorb moved close leaves (m .queue)) n))
       ⊎ ((w ≡ halt (ρ .number) (ρ .chunk) (ρ .instruction)) × (n ≡ ρ .steps))
 
-  says-refused : (n : ℕ) (w : Where C F R S) (ρ : Refusal) → says n w ≡ refused ρ → Refused n w ρ
+  says-refused : (n : ℕ) (w : Where C F R S) (ρ : Refusal) → Says n w ≡ refused ρ → Refused n w ρ
   unfolding says
   says-refused n (due m) ρ h = inl (m, refl, sym (refused-inj h))
   says-refused n (done x) ρ h = absurd (refused≢accepted (sym h))
@@ -147,7 +134,7 @@ module _ {C F R S G : Type 0}
       let e = refused-inj h in
       inr (ap stop (λ i. record { number = e i .number; chunk = e i .chunk; instruction = e i .instruction }), ap (λ r. r .steps) e)
 
-  takings-full : (n : ℕ) (w : Where C F R S) → ((k : ℕ) → k < n → Due (after-takings k w)) → takings n w ≡ n
+  takings-full : (n : ℕ) (w : Where C F R S) → ((k : ℕ) → k < n → Due (After k w)) → Takings n w ≡ n
   unfolding takings after-takings
   takings-full zero w h = refl
   takings-full (suc n) (due m) h = ap suc (takings-full n (Next m) (λ k l. h (suc k) (omega arith)))
@@ -162,60 +149,54 @@ module _ {C F R S G : Type 0}
   Checked = check join cap chunks reachable start after open′ view absorb moved close leaves
 
   -- THEOREM: the check says what stands after its takings, and their number
-  pub check-is : (limit : ℕ) (r : R) → Checked limit r ≡ says (takings limit (Begun r)) (after-takings limit (Begun r))
+  pub check-is : (limit : ℕ) (r : R) → Checked limit r ≡ Says (Takings limit (Begun r)) (After limit (Begun r))
   unfolding check
   check-is limit r = rw zero-add at (goes-is limit 0 (Begun r))
 
-  -- a run from w that ends after exactly n takings, of at most `limit`
-  pub record Counted (w : Where C F R S) (limit n : ℕ) (end : Where C F R S) : Type 0 where
-    pub within : n ≤ limit
-    pub ends : after-takings n w ≡ end
-    pub before : (k : ℕ) → k < n → Due (after-takings k w)
+  abbrev CountedAt : Where C F R S → ℕ → ℕ → Where C F R S → Type 0
+  CountedAt = Counted join cap chunks reachable start after open′ view absorb moved close leaves
 
-  counted : (w : Where C F R S) (limit n : ℕ) (end : Where C F R S) → after-takings limit w ≡ end → takings limit w ≡ n → Counted w limit n end
+  abbrev SpentAt : ℕ → R → Refusal → Type 0
+  SpentAt = Spent join cap chunks reachable start after open′ view absorb moved close leaves
+
+  counted : (w : Where C F R S) (limit n : ℕ) (end : Where C F R S) → After limit w ≡ end → Takings limit w ≡ n → CountedAt w limit n end
   counted w limit n end e p = record {
     within = let l = takings-most limit w in omega arith;
     ends = rw (← p) (takings-end limit w ∙ e);
     before = λ k l. due-before limit k w (rw p l);
   }
 
-  counted-says : (w : Where C F R S) (limit n : ℕ) (end : Where C F R S) → Over end → Counted w limit n end
-      → says (takings limit w) (after-takings limit w) ≡ says n end
+  counted-says : (w : Where C F R S) (limit n : ℕ) (end : Where C F R S) → Over end → CountedAt w limit n end
+      → Says (Takings limit w) (After limit w) ≡ Says n end
   counted-says w limit n end o h =
-      let over : Over (after-takings n w) = rw (h .ends) o in
+      let over : Over (After n w) = rw (h .ends) o in
       let (e, p) = takings-over n limit w (h .within) over in
       rw (e, p, takings-full n w (h .before), h .ends)
 
-  pub accepted-counted : (limit : ℕ) (r : R) (x : Final R S) (n : ℕ) → Checked limit r ≡ accepted x n → Counted (Begun r) limit n (done x)
+  pub accepted-counted : (limit : ℕ) (r : R) (x : Final R S) (n : ℕ) → Checked limit r ≡ accepted x n → CountedAt (Begun r) limit n (done x)
   accepted-counted limit r x n h =
-      let (e, p) = says-accepted (takings limit (Begun r)) (after-takings limit (Begun r)) x n (sym (check-is limit r) ∙ h) in
+      let (e, p) = says-accepted (Takings limit (Begun r)) (After limit (Begun r)) x n (sym (check-is limit r) ∙ h) in
       counted (Begun r) limit n (done x) e p
 
-  pub counted-accepted : (limit : ℕ) (r : R) (x : Final R S) (n : ℕ) → Counted (Begun r) limit n (done x) → Checked limit r ≡ accepted x n
+  pub counted-accepted : (limit : ℕ) (r : R) (x : Final R S) (n : ℕ) → CountedAt (Begun r) limit n (done x) → Checked limit r ≡ accepted x n
   unfolding says
   counted-accepted limit r x n h = check-is limit r ∙ counted-says (Begun r) limit n (done x) tt h
 
-  -- the machine's 7: an entry is due after `limit` takings
-  abbrev pub Spent : ℕ → R → Refusal → Type 0
-  Spent limit r ρ =
-      (m : Machine C F S) × (after-takings limit (Begun r) ≡ due m)
-      × (ρ ≡ refusal 7 (m .number) (entryDue join cap chunks reachable start after open′ view absorb moved close leaves (m .queue)) limit)
-
   pub refused-counted : (limit : ℕ) (r : R) (ρ : Refusal) → Checked limit r ≡ refused ρ
-      → Spent limit r ρ ⊎ Counted (Begun r) limit (ρ .steps) (halt (ρ .number) (ρ .chunk) (ρ .instruction))
-  refused-counted limit r ρ h = go (says-refused (takings limit (Begun r)) (after-takings limit (Begun r)) ρ (sym (check-is limit r) ∙ h))
+      → SpentAt limit r ρ ⊎ CountedAt (Begun r) limit (ρ .steps) (halt (ρ .number) (ρ .chunk) (ρ .instruction))
+  refused-counted limit r ρ h = go (says-refused (Takings limit (Begun r)) (After limit (Begun r)) ρ (sym (check-is limit r) ∙ h))
     where
-      go : Refused (takings limit (Begun r)) (after-takings limit (Begun r)) ρ
-          → Spent limit r ρ ⊎ Counted (Begun r) limit (ρ .steps) (halt (ρ .number) (ρ .chunk) (ρ .instruction))
+      go : Refused (Takings limit (Begun r)) (After limit (Begun r)) ρ
+          → SpentAt limit r ρ ⊎ CountedAt (Begun r) limit (ρ .steps) (halt (ρ .number) (ρ .chunk) (ρ .instruction))
       go (inl (m, e, p)) = inl (m, e, rw (takings-due limit (Begun r) m e) at p)
       go (inr (e, p)) = inr (counted (Begun r) limit (ρ .steps) (halt (ρ .number) (ρ .chunk) (ρ .instruction)) e p)
 
-  pub counted-refused : (limit : ℕ) (r : R) (x : Stop) (n : ℕ) → Counted (Begun r) limit n (stop x)
+  pub counted-refused : (limit : ℕ) (r : R) (x : Stop) (n : ℕ) → CountedAt (Begun r) limit n (stop x)
       → Checked limit r ≡ refused (refusal (x .number) (x .chunk) (x .instruction) n)
   unfolding says
   counted-refused limit r x n h = check-is limit r ∙ counted-says (Begun r) limit n (stop x) tt h
 
-  pub spent-refused : (limit : ℕ) (r : R) (m : Machine C F S) → after-takings limit (Begun r) ≡ due m
+  pub spent-refused : (limit : ℕ) (r : R) (m : Machine C F S) → After limit (Begun r) ≡ due m
       → Checked limit r ≡ refused (refusal 7 (m .number) (entryDue join cap chunks reachable start after open′ view absorb moved close leaves (m .queue)) limit)
   unfolding says
   spent-refused limit r m e = check-is limit r ∙ (rw (takings-due limit (Begun r) m e, e) refl)
@@ -227,12 +208,12 @@ module _ {C F R S G : Type 0}
   pub refused-within : (limit : ℕ) (r : R) (ρ : Refusal) → Checked limit r ≡ refused ρ → ρ .steps ≤ limit
   refused-within limit r ρ h = go (refused-counted limit r ρ h)
     where
-      go : Spent limit r ρ ⊎ Counted (Begun r) limit (ρ .steps) (halt (ρ .number) (ρ .chunk) (ρ .instruction)) → ρ .steps ≤ limit
+      go : SpentAt limit r ρ ⊎ CountedAt (Begun r) limit (ρ .steps) (halt (ρ .number) (ρ .chunk) (ρ .instruction)) → ρ .steps ≤ limit
       go (inl (m, e, p)) = let q : ρ .steps ≡ limit = ap (λ r. r .steps) p in omega arith
       go (inr c) = c .within
 
   -- a run of a + b takings that is not over after a is a run of b from there
-  pub run-split : (a b steps : ℕ) (m m′ : Machine C F S) → after-takings a (due m) ≡ due m′
+  pub run-split : (a b steps : ℕ) (m m′ : Machine C F S) → After a (due m) ≡ due m′
       → run join cap chunks reachable start after open′ view absorb moved close leaves (a + b) steps m
       ≡ run join cap chunks reachable start after open′ view absorb moved close leaves b (steps + a) m′
   unfolding onNext

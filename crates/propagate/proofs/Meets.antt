@@ -25,7 +25,8 @@ use Rattle.layout.specs.Layout.{numbersAt, slotAt, rowAt}
 use Rattle.layout.specs.Indexed.{tablesOf}
 use Rattle.layout.proofs.Read.{Row, row-known, stack-is, locals-is}
 use Rattle.layout.proofs.Apart.{by-order, rows-begin, row-apart, row-other, row-in}
-use Rattle.layout.proofs.Kept.{Steady, Free, row-free}
+use Rattle.layout.specs.Kept.{Steady}
+use Rattle.layout.proofs.Kept.{Free, row-free}
 use Rattle.row_join.specs.declared.joining.Leaving.{Leaving}
 use Rattle.row_join.specs.declared.joining.Way.{Way}
 use Rattle.row_join.specs.declared.joining.Met.{Met}
@@ -33,8 +34,8 @@ use Rattle.row_join.specs.declared.joining.Met.the-variants.{Same, Changed, Une
 use Rattle.row_join.specs.joining.Leave.{JoinReady, leavesAs, stateIn, metState, metHow, metWord, rowWords}
 use Rattle.row_join.proofs.joining.Joined.{metPut, put-met, same-stays, state-wide, leaves-wide}
 use Rattle.visit.specs.declared.RowVisit.{RowVisit}
-use Rattle.run_state.specs.Course.{statesIn, roomIn, workIn, Low, Queued, RowsOnly}
-use Rattle.run_state.proofs.Rows.{stateAt, SameRow, states-length, states-at, states-set, low-set, rows-only-trans}
+use Rattle.run_state.specs.Course.{statesIn, roomIn, workIn, Low, Queued, RowsOnly, stateAt}
+use Rattle.run_state.proofs.Rows.{SameRow, states-length, states-at, states-set, low-set, rows-only-trans}
 use Rattle.run_state.proofs.Queues.{queue-length, queue-kept, queued-kept, push-rows-only, push-states, push-low, queued-push}
 use Rattle.propagate.specs.declared.Went.{Went}
 use Rattle.propagate.specs.declared.Went.the-variants.{On, Stop}

@@ -18,6 +18,7 @@ use Rattle.definition.specs.Module.{Module}
 use Rattle.definition.specs.Report.{reportBytes}
 use Rattle.definition.specs.Call.{Decided, reported, turned, decided, decide, Outcome, leftWords, turnedBack, delivered, outcomeOf, call}
 use Rattle.definition.specs.CallIndexed.{IndexedOutcome, turnedBackWith, deliveredWith, indexOf, outcomeWith, callIndexed}
+use Rattle.refusal_laws.specs.Indexed.{TooLong}
 use Rattle.refusal_laws.proofs.Left.{decided-zero}
 use Rattle.refusal_laws.proofs.Calls.{refused-numbers, untouched-exactly, accepted-zero}
 
@@ -55,10 +56,6 @@ outcome-beside (reported q steps) ws buf idx = go (ltb (length buf) (length bs))
     go true b e = same (nowhere 6 steps) refl
     go false true e = short (length bs) steps refl (rw own (ltb-true (length idx) (length x) e))
     go false false e = whole (length bs) steps x refl own (ltb-false (length idx) (length x) e)
-
--- the call without an index accepts with these steps, and the index of its report does not fit
-abbrev pub TooLong : Outcome → List ℕ → ℕ → Type 0
-TooLong o idx steps = (long : ℕ) × (o .answer ≡ Accepted long steps) × (length idx < length (indexOf (take long (o .report))))
 
 module _ {buf idx : List ℕ} {o : Outcome} where
   -- a refusal is that of the call without an index, or 19

@@ -31,23 +31,24 @@ join-late = join-of Late (omega arith, omega arith) (omega arith, omega arith) (
 after-late : (c : Chunk) (ss : List (Option State)) → OfPlace Late (afterChunk c ss)
 after-late = after-of Late (omega arith, omega arith) (omega arith, omega arith) (omega arith, omega arith) (omega arith, omega arith) (omega arith, omega arith) (omega arith, omega arith)
 
--- ---- admission
-admission-late : (m : Module) (c : Chunk) → OfFault Late (admission m c)
-unfolding admission
-admission-late m c =
-    either (OfFault Late) (leb (m .signatures) (c .number) || (eqb (length (c .code)) 0 || not (eqb (length (c .params)) (c .arity)))) (omega arith, omega arith)
-    (either (OfFault Late) (agree (c .tags) (c .params)) tt (omega arith, omega arith))
+-- ---- admission: 9 and 10
+module _ (P : ℕ → Type 0) (p9 : P 9) (p10 : P 10) where
+  admission-of : (m : Module) (c : Chunk) → OfFault P (admission m c)
+  unfolding admission
+  admission-of m c =
+      either (OfFault P) (leb (m .signatures) (c .number) || (eqb (length (c .code)) 0 || not (eqb (length (c .params)) (c .arity)))) p9
+      (either (OfFault P) (agree (c .tags) (c .params)) tt p10)
 
-admitted-late : (m : Module) (cs : List Chunk) → OfPlace Late (admitted m cs)
-unfolding admitted
-admitted-late m [] = tt
-admitted-late m (c ∷ cs) = go (c .reachable) (eqb (admission m c) 0) refl (admitted-late m cs)
-  where
-    go : (a b : Bool) → eqb (admission m c) 0 ≡ b → OfPlace Late (admitted m cs)
-        → OfPlace Late (cond (a && not b) (some (admission m c, c .number)) (admitted m cs))
-    go true true e h = h
-    go true false e h = there Late _ (admission-late m c) e
-    go false b e h = h
+  pub admitted-of : (m : Module) (cs : List Chunk) → OfPlace P (admitted m cs)
+  unfolding admitted
+  admitted-of m [] = tt
+  admitted-of m (c ∷ cs) = go (c .reachable) (eqb (admission m c) 0) refl (admitted-of m cs)
+    where
+      go : (a b : Bool) → eqb (admission m c) 0 ≡ b → OfPlace P (admitted m cs)
+          → OfPlace P (cond (a && not b) (some (admission m c, c .number)) (admitted m cs))
+      go true true e h = h
+      go true false e h = there P _ (admission-of m c) e
+      go false b e h = h
 
 -- ---- the whole
 run-late : (k : Known) (cap limit : ℕ) (f : Facts) → OfRan Late (runOf k cap limit f)
@@ -74,7 +75,7 @@ on-admitted m cap limit none h = on-reply _ cap limit _ _
 
 pub decided-late : (m : Module) (cap limit : ℕ) → OfDecided Late (decided m cap limit)
 unfolding decided
-decided-late m cap limit = on-admitted m cap limit _ (admitted-late m (m .chunks))
+decided-late m cap limit = on-admitted m cap limit _ (admitted-of Late (omega arith, omega arith) (omega arith, omega arith) m (m .chunks))
 
 -- THEOREM
 pub decided-numbers : (m : Module) (cap limit : ℕ) (r : Refusal) → decided m cap limit ≡ turned r → (7 ≤ r .number) × (r .number ≤ 18)

@@ -45,6 +45,41 @@ module _ (Only : ℕ → Type 0) (only-8 : Only 8) where
         bind-of Only (leaves (view f) i s) _ (rule (view f) i s)
         (λ e. bind-of Only (puts join cap (record { states = st; queue = q }) (e .ways)) _ (puts-only _ (e .ways)) (λ w. tt))
 
+-- ---- between two takings: only what follows a chunk refuses
+module _ {C F R S G : Type 0} (join : S → S → Res (Joined S)) (cap : ℕ) (chunks : List C) (reachable : C → Bool)
+    (start : C → R → List (Option S)) (after : C → List (Option S) → Option (ℕ × ℕ))
+    (open′ : R → F) (view : F → R) (absorb : F → G → F) (loud : F → Bool) (close : F → R)
+    (leaves : Bool → C → R → ℕ → S → Res (Effect S G))
+    (Only : ℕ → Type 0) (follows : (c : C) (st : List (Option S)) → OfPlace Only (after c st)) where
+  pub enter-of : (v : Bool) (end : F → List (List (Option S)) → Where C F R S) → ((f : F) (past : List (List (Option S))) → OfWhere Only (end f past))
+      → (n : ℕ) (f : F) (past : List (List (Option S))) (cs : List C)
+      → OfWhere Only (enter join cap chunks reachable start after open′ view absorb loud close leaves v end n f past cs)
+  unfolding enter
+  enter-of v end h n f past [] = h f past
+  enter-of v end h n f past (c ∷ cs) = either (OfWhere Only) (reachable c) tt (enter-of v end h (suc n) f (past ++ ([] ∷ [])) cs)
+
+  ending-of : (v : Bool) (f : F) (past : List (List (Option S)))
+      → OfWhere Only (ending join cap chunks reachable start after open′ view absorb loud close leaves v f past)
+  unfolding ending endRound finish
+  ending-of true f past = tt
+  ending-of false f past = enter-of (not (loud f)) _ (λ g p. tt) 0 _ [] chunks
+
+  onward-of : (m : Machine C F S) (o : Option (ℕ × ℕ)) → OfPlace Only o
+      → OfWhere Only (onward join cap chunks reachable start after open′ view absorb loud close leaves m o)
+  unfolding onward
+  onward-of m (some x) h = h
+  onward-of m none h = enter-of (m .validating) _ (ending-of (m .validating)) _ (m .facts) _ (m .rest)
+
+  pub settle-of : (m : Machine C F S) (v : Bool) → OfWhere Only (settle join cap chunks reachable start after open′ view absorb loud close leaves m v)
+  unfolding settle
+  settle-of m true = onward-of m _ (follows (m .chunk) (m .states))
+  settle-of m false = onward-of m none tt
+
+  pub settled-of : (m : Machine C F S) (q : List ℕ) → OfWhere Only (settled join cap chunks reachable start after open′ view absorb loud close leaves m q)
+  unfolding settled
+  settled-of m [] = settle-of m (m .validating)
+  settled-of m (i ∷ q) = tt
+
 module _ {C F R S G : Type 0} (join : S → S → Res (Joined S)) (cap : ℕ) (chunks : List C) (reachable : C → Bool)
     (start : C → R → List (Option S)) (after : C → List (Option S) → Option (ℕ × ℕ))
     (open′ : R → F) (view : F → R) (absorb : F → G → F) (loud : F → Bool) (close : F → R)
@@ -56,41 +91,17 @@ module _ {C F R S G : Type 0} (join : S → S → Res (Joined S)) (cap : ℕ) (c
   pub enter-only : (v : Bool) (end : F → List (List (Option S)) → Where C F R S) → ((f : F) (past : List (List (Option S))) → OfWhere Only (end f past))
       → (n : ℕ) (f : F) (past : List (List (Option S))) (cs : List C)
       → OfWhere Only (enter join cap chunks reachable start after open′ view absorb loud close leaves v end n f past cs)
-  unfolding enter
-  enter-only v end h n f past [] = h f past
-  enter-only v end h n f past (c ∷ cs) = either (OfWhere Only) (reachable c) tt (enter-only v end h (suc n) f (past ++ ([] ∷ [])) cs)
-
-  ending-only : (v : Bool) (f : F) (past : List (List (Option S)))
-      → OfWhere Only (ending join cap chunks reachable start after open′ view absorb loud close leaves v f past)
-  unfolding ending endRound finish
-  ending-only true f past = tt
-  ending-only false f past = enter-only (not (loud f)) _ (λ g p. tt) 0 _ [] chunks
-
-  onward-only : (m : Machine C F S) (o : Option (ℕ × ℕ)) → OfPlace Only o
-      → OfWhere Only (onward join cap chunks reachable start after open′ view absorb loud close leaves m o)
-  unfolding onward
-  onward-only m (some x) h = h
-  onward-only m none h = enter-only (m .validating) _ (ending-only (m .validating)) _ (m .facts) _ (m .rest)
-
-  settle-only : (m : Machine C F S) (v : Bool) → OfWhere Only (settle join cap chunks reachable start after open′ view absorb loud close leaves m v)
-  unfolding settle
-  settle-only m true = onward-only m _ (follows (m .chunk) (m .states))
-  settle-only m false = onward-only m none tt
-
-  settled-only : (m : Machine C F S) (q : List ℕ) → OfWhere Only (settled join cap chunks reachable start after open′ view absorb loud close leaves m q)
-  unfolding settled
-  settled-only m [] = settle-only m (m .validating)
-  settled-only m (i ∷ q) = tt
+  enter-only = enter-of join cap chunks reachable start after open′ view absorb loud close leaves Only follows
 
   seen-only : (m : Machine C F S) (i : ℕ) (r : Res (Seen F S)) → OfRes Only r
       → OfWhere Only (onSeen join cap chunks reachable start after open′ view absorb loud close leaves m i r)
   unfolding onSeen
   seen-only m i (bad n) h = h
-  seen-only m i (ok r) h = settled-only _ (r .work .queue)
+  seen-only m i (ok r) h = settled-of join cap chunks reachable start after open′ view absorb loud close leaves Only follows _ (r .work .queue)
 
   pub takes-only : (m : Machine C F S) (q : List ℕ) → OfWhere Only (takes join cap chunks reachable start after open′ view absorb loud close leaves m q)
   unfolding takes visit
-  takes-only m [] = settle-only m (m .validating)
+  takes-only m [] = settle-of join cap chunks reachable start after open′ view absorb loud close leaves Only follows m (m .validating)
   takes-only m (i ∷ q) =
       seen-only m i _
       (visit-only Only only-8 join cap joins view _ _ (rule (m .validating) (m .chunk)) (m .facts) (m .states) q i (getD (m .states) i none))

@@ -12,7 +12,7 @@ use Rattle.le.specs.Le.{at8, at32}
 use Rattle.answers.specs.Answers.{nowhere}
 use Rattle.lookup.specs.declared.Entry.{Entry}
 use Rattle.lookup.specs.declared.Part.{Part}
-use Rattle.lookup.specs.Find.{atEnd, entriesIn, names, firstOf, found}
+use Rattle.lookup.specs.Find.{atEnd, entriesIn, names, partOf, firstOf, found}
 use Rattle.report_index.specs.declared.Sought.the-variants.{Found, Disagrees}
 use Rattle.report_index.specs.Index.{entryNo, entriesOf, isBefore, rises, matched, agrees, sought, Answered}
 use Rattle.report_index.specs.entries.Split.{Split}
@@ -44,9 +44,6 @@ rises-one {e = e} {f = f} (g ∷ fs) h (List·Memᴰ·tail m) (List·Memᴰ·hea
 rises-one (g ∷ fs) h (List·Memᴰ·tail m) (List·Memᴰ·tail n) c i = rises-one fs (rises-tail g fs h) m n c i
 
 -- ---- the walk's first record of a chunk and an instruction
-abbrev pub partOf : Entry → Part
-partOf e = record { first = e .first; size = e .length }
-
 module _ (other : Part) (c i : ℕ) where
   pub first-is : (p : Part) (es : List Entry) {f : Entry} → ((e : Entry) → List·Memᴰ e es → names c i e ≡ true → partOf e ≡ p)
       → List·Memᴰ f es → names c i f ≡ true → firstOf other c i es ≡ p

@@ -16,25 +16,11 @@ use Rattle.machine_laws.proofs.All.{All, nil, cons}
 use Rattle.description.proofs.Walk.{fields-turn, fields-end}
 use Rattle.report_laws.proofs.Cells.{Proper, cell-long, cell-read, cells-long, cells-read}
 use Rattle.report_laws.proofs.Walk.{tags-append, field-long, contents-at, length-at, tag-at, next-at, group, places, group-walk, group-own, group-other, group-read}
+pub use Rattle.report_laws.specs.Proper.{ProperSignature, ProperRecord, ProperReport}
 use Rattle.report_laws.specs.Read.{rowAt, readCell, readCells, inputsIn, readSignature, readOutput, readGuard, readRecord, readInspection, readBranch, readFrom, readReport}
 
--- ---- what a report can say
-pub record ProperSignature (x : Signature) : Type 0 where
-  pub inputs : All Proper (x .inputs)
-  pub result : Proper (x .result)
-
-pub record ProperRecord (x : Record) : Type 0 where
-  pub stack : All Proper (x .stack)
-  pub locals : All Proper (x .locals)
-  pub outputs : All (λ o. Proper (o .cell)) (x .outputs)
-
-pub record ProperReport (r : Report) : Type 0 where
-  pub signatures : All ProperSignature (r .signatures)
-  pub slots : All Proper (r .slots)
-  pub records : All ProperRecord (r .records)
-
 -- ---- outputs and guards
-outputs-long : {os : List Output} → All (λ o. Proper (o .cell)) os → length (outputsBytes os) ≡ 51 * length os
+pub outputs-long : {os : List Output} → All (λ o. Proper (o .cell)) os → length (outputsBytes os) ≡ 51 * length os
 unfolding outputsBytes
 outputs-long nil = refl
 outputs-long (cons {x = o} {xs = os} p ps) =

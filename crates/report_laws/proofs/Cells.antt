@@ -24,24 +24,9 @@ use Rattle.cells.specs.declared.Cell.{Cell}
 use Rattle.machine_laws.proofs.All.{All, nil, cons}
 use Rattle.definition.specs.Report.{sizedBytes, widthBytes, rangeBytes, bodyBytes, ownedByte, originNumber, receiverNumber, whenByte, bodiesBytes, sourceBytes, cellBytes, cellsBytes}
 use Rattle.report_laws.proofs.Has.{Has, has-left, has-right, has-head, has-tail, has-at, read16, read32, long16, long32}
+use Rattle.report_laws.specs.Names.{NamesLocal, NamesReceiver}
+pub use Rattle.report_laws.specs.Proper.{FlowNaming, CellNaming, Sayable, ProperFlow, Proper}
 use Rattle.report_laws.specs.Read.{rowAt, readWidth, readExtent, readOwned, readOrigin, readPredicate, readCell, readCells}
-
--- ---- what a report can say of a cell
-unfoldable pub NamesLocal : Origin → Type 0
-NamesLocal Nowhere = Unit {0}
-NamesLocal (Local l) = l ≡ 65535 → ⊥
-
-unfoldable pub NamesReceiver : Predicate → Type 0
-NamesReceiver Untested = Unit {0}
-NamesReceiver (Tests r w) = r ≡ 65535 → ⊥
-
-pub record ProperFlow (f : Flow) : Type 0 where
-  pub four : length (f .bodies) ≡ 4
-  pub origin : NamesLocal (f .origin)
-  pub receiver : NamesReceiver (f .predicate)
-
-abbrev pub Proper : Cell → Type 0
-Proper c = ProperFlow (c .flow)
 
 -- ---- the parts of a cell
 sized-read : {s : List ℕ} {q : ℕ} (tag n : ℕ) → Has s q (sizedBytes tag n) → (at8 s q ≡ tag) × (at32 s (q + 1) ≡ n)
@@ -92,12 +77,12 @@ unfolding bodiesBytes
 bodies-long [] = refl
 bodies-long (x ∷ xs) = omega (arith, length-append (bodyBytes (x .body)) (bodiesBytes xs), extent-long (x .body), bodies-long xs)
 
-origin-read : (o : Origin) → NamesLocal o → readOrigin (originNumber o) ≡ o
+origin-read : (o : Origin) → NamesLocal Sayable o → readOrigin (originNumber o) ≡ o
 unfolding originNumber readOrigin NamesLocal
 origin-read Nowhere n = refl
 origin-read (Local l) n = rw (ne-eqb l 65535 n)
 
-predicate-read : (p : Predicate) → NamesReceiver p → readPredicate (receiverNumber p) (whenByte p) ≡ p
+predicate-read : (p : Predicate) → NamesReceiver Sayable p → readPredicate (receiverNumber p) (whenByte p) ≡ p
 unfolding receiverNumber whenByte readPredicate NamesReceiver
 predicate-read Untested n = refl
 predicate-read (Tests r true) n = rw (ne-eqb r 65535 n)

@@ -3,5 +3,6 @@ pub mod Cells
 pub mod Walk
 pub mod Back
 pub mod Kept
+pub mod Carried
 pub mod Runs
 pub mod Reports

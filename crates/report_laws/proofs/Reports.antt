@@ -4,33 +4,30 @@ use native.Mathlib.Omega.{arith}
 use mathlib.Core.Path.{_≡_, refl, sym, _∙_}
 use mathlib.Core.Bool.{Bool, true, false, cond}
 use mathlib.Core.Option.{Option, none, some}
-use mathlib.Core.List.{List, [], _∷_, map}
+use mathlib.Core.List.{List, [], _∷_}
 use lib.Dec.{leb}
-use lib.ListN.{take}
 use Rattle.answers.specs.declared.Refusal.{Refusal}
 use Rattle.masks.specs.declared.Mask.{Mask}
-use Rattle.widths.specs.declared.Shape.{Shape}
 use Rattle.flows.specs.declared.Flow.{Flow}
 use Rattle.cells.specs.declared.Cell.{Cell}
-use Rattle.cells.specs.Cell.{declared}
-use Rattle.machine_laws.proofs.All.{All, nil, cons, all-append, all-get, all-replicate, Opt}
+use Rattle.machine_laws.proofs.All.{All, nil, cons, all-append, all-get, Opt}
 use Rattle.definition.specs.declared.Form.{Form}
 use Rattle.definition.specs.declared.Form.the-variants.{Fine}
 use Rattle.definition.specs.declared.Form.the-variants.{Refused as Malformed}
 use Rattle.definition.specs.Machine.{Final, Ran, accepted, refused}
-use Rattle.definition.specs.Module.{Module, Chunk, Line, Site, moduleOf}
+use Rattle.definition.specs.Module.{Module, Chunk, moduleOf}
 use Rattle.definition.specs.State.{State, Facts}
 use Rattle.definition.specs.Outputs.{outputs}
 use Rattle.definition.specs.Leaves.{Known, visitOf}
 use Rattle.definition.specs.Form.{formOf}
-use Rattle.definition.specs.Start.{declaredParams, firstFacts, overfull, siteReply, replyIn, replies, firstReply, replyCell, knownOf}
+use Rattle.definition.specs.Start.{firstFacts, overfull, knownOf}
 use Rattle.definition.specs.Report.{Report, signaturesFrom, slotCells, placed, recordFrom, recordOf, fromState, fromStates, fromChunks, reportOf, reportBytes}
 use Rattle.definition.specs.Call.{Decided, reported, turned, runOf, onRan, admittedRun, onReply, known, onAdmitted, decided, onForm, decide}
 use Rattle.report_laws.specs.Read.{readReport}
-use Rattle.report_laws.proofs.Cells.{ProperFlow, Proper}
+use Rattle.report_laws.proofs.Cells.{Sayable, ProperFlow, Proper}
 use Rattle.report_laws.proofs.Back.{ProperSignature, ProperRecord, ProperReport, read-back}
-use Rattle.report_laws.proofs.Kept.{cell-join, flow-new, flow-none, cell-none, cell-unit}
-use Rattle.report_laws.proofs.Runs.{ProperState, ProperFacts, visit-proper, outputs-proper, run-proper}
+use Rattle.report_laws.proofs.Kept.{flow-none, cell-none}
+use Rattle.report_laws.proofs.Runs.{ProperState, ProperFacts, made-proper, first-naming, reply-naming, run-proper}
 
 -- ---- from proper facts and states a proper report
 signatures-proper : (n : ℕ) {iss : List (List Cell)} {rs : List Cell} → All (All Proper) iss → All Proper rs → All ProperSignature (signaturesFrom n iss rs)
@@ -54,7 +51,7 @@ unfolding recordOf recordFrom
 record-proper k c f i s r p q = record {
   stack = q .stack;
   locals = q .locals;
-  outputs = placed-proper _ (outputs-proper (visitOf k c f i s) _ (visit-proper k c f i s r p q));
+  outputs = placed-proper _ (made-proper k c f i s _ r p q);
 }
 
 module _ {A : Type 0} (Q : A → Type 0) where
@@ -79,47 +76,6 @@ report-proper k n x r p q = record {
   slots = slots-proper (x .facts .masks) (p .flows);
   records = chunks-give ProperRecord (λ c i s. recordOf k c (x .facts) i s ∷ []) (λ c i s h. cons (record-proper k c (x .facts) i s r p h) nil) (k .code .chunks) q;
 }
-
--- ---- the facts and the reply at the start
-cell-declared : (s : Shape) (b : Bool) → Proper (declared s b)
-unfolding declared
-cell-declared s b = flow-new _ _ _
-
-map-all : {A B : Type 0} (Q : B → Type 0) (f : A → B) → ((x : A) → Q (f x)) → (xs : List A) → All Q (map f xs)
-map-all Q f h [] = nil
-map-all Q f h (x ∷ xs) = cons (h x) (map-all Q f h xs)
-
-first-proper : (m : Module) → ProperFacts (firstFacts m)
-unfolding firstFacts declaredParams
-first-proper m = record {
-  inputs = map-all (All Proper) (declaredParams m) (λ c. map-all Proper (λ x. declared x (m .owns)) (λ x. cell-declared x (m .owns)) (c .params)) (take (m .signatures) (m .chunks));
-  results = map-all Proper (λ c. declared (c .result) (m .owns)) (λ c. cell-declared (c .result) (m .owns)) (take (m .signatures) (m .chunks));
-  flows = all-replicate ProperFlow (m .slots) flow-none;
-}
-
-site-proper : (m : Module) (c : Cell) (o : Option Site) → Proper c → Proper (siteReply m c o)
-unfolding siteReply
-site-proper m c none p = p
-site-proper m c (some x) p = cell-join c _ p (cell-declared _ _)
-
-in-proper : (m : Module) (c : Cell) (xs : List Line) → Proper c → Proper (replyIn m c xs)
-unfolding replyIn
-in-proper m c [] p = p
-in-proper m c (x ∷ xs) p = in-proper m _ xs (site-proper m c (x .site) p)
-
-replies-proper : (m : Module) (c : Cell) (cs : List Chunk) → Proper c → Proper (replies m c cs)
-unfolding replies
-replies-proper m c [] p = p
-replies-proper m c (x ∷ xs) p = replies-proper m _ xs (in-proper m c (x .code) p)
-
-head-proper : {cs : List Cell} → All Proper cs → Proper (firstReply cs)
-unfolding firstReply
-head-proper nil = cell-unit
-head-proper (cons p a) = p
-
-reply-proper : (m : Module) (f : Facts) → ProperFacts f → Proper (knownOf m f .reply)
-unfolding knownOf replyCell
-reply-proper m f p = replies-proper m _ (m .chunks) (head-proper (all-get (All Proper) (m .entry) nil (p .inputs)))
 
 -- ---- the call
 turned≢reported : {r : Refusal} {x : Report} {n : ℕ} → turned r ≡ reported x n → ⊥
@@ -149,7 +105,7 @@ admitted-proper : (m : Module) (cap limit n : ℕ) (o : Option (ℕ × ℕ)) (r 
 unfolding onAdmitted known
 admitted-proper m cap limit n (some x) r e = absurd (turned≢reported e)
 admitted-proper m cap limit n none r e =
-    reply-by (knownOf m (firstFacts m)) cap limit n (firstFacts m) _ r (reply-proper m (firstFacts m) (first-proper m)) (first-proper m) e
+    reply-by (knownOf m (firstFacts m)) cap limit n (firstFacts m) _ r (reply-naming Sayable m (firstFacts m) (first-naming Sayable m)) (first-naming Sayable m) e
 
 -- after 1 to 5
 form-proper : (s : List ℕ) (words limit n : ℕ) (f : Form) (r : Report) → onForm s words limit f ≡ reported r n → ProperReport r
@@ -157,7 +113,10 @@ unfolding onForm decided
 form-proper s words limit n (Malformed x) r e = absurd (turned≢reported e)
 form-proper s words limit n (Fine w) r e = admitted-proper (moduleOf s) (words - w) limit n _ r (if-reported (leb words w) _ _ _ refl e)
 
--- every report that the definition decides on is read back from its bytes
-pub decided-back : (s : List ℕ) (words limit n : ℕ) (r : Report) → decide s words limit ≡ reported r n → readReport (reportBytes r) ≡ r
+-- every report that the definition decides on is proper, and so read back from its bytes
+pub decided-proper : (s : List ℕ) (words limit n : ℕ) (r : Report) → decide s words limit ≡ reported r n → ProperReport r
 unfolding decide
-decided-back s words limit n r e = read-back r (form-proper s words limit n (formOf s) r e)
+decided-proper s words limit n r e = form-proper s words limit n (formOf s) r e
+
+pub decided-back : (s : List ℕ) (words limit n : ℕ) (r : Report) → decide s words limit ≡ reported r n → readReport (reportBytes r) ≡ r
+decided-back s words limit n r e = read-back r (decided-proper s words limit n r e)

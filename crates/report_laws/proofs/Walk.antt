@@ -3,7 +3,7 @@ use Prim.Native.Nat.{ℕ, _+_, _≤_}
 use native.Mathlib.Omega.{arith}
 use mathlib.Core.Path.{_≡_, refl, sym, _∙_, ap, ap₂}
 use mathlib.Core.Bool.{Bool, true, false, cond}
-use mathlib.Core.List.{List, [], _∷_, _++_, map}
+use mathlib.Core.List.{List, [], _∷_, _++_, map, append-assoc}
 use lib.Dec.{eqb}
 use lib.ListN.{length, length-append}
 use borrow.Author.Tests.{eq-eqb, ne-eqb}
@@ -23,6 +23,11 @@ tags-append t s (p ∷ ps) qs = go (eqb (tagAt s p) t) (tags-append t s ps qs)
         → cond b (p ∷ ofTag t s (ps ++ qs)) (ofTag t s (ps ++ qs)) ≡ cond b (p ∷ ofTag t s ps) (ofTag t s ps) ++ ofTag t s qs
     go true e = ap (λ l. p ∷ l) e
     go false e = e
+
+pub each-append : {A : Type 0} (f : A → List ℕ) (xs ys : List A) → each f (xs ++ ys) ≡ each f xs ++ each f ys
+unfolding each
+each-append f [] ys = refl
+each-append f (x ∷ xs) ys = ap (λ (l : List ℕ). f x ++ l) (each-append f xs ys) ∙ sym (append-assoc (f x) (each f xs) (each f ys))
 
 -- ---- a field that stands at a place
 field-read : {s : List ℕ} {p : ℕ} (tag : ℕ) (c : List ℕ) → Has s p (field tag c)

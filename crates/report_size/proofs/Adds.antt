@@ -5,7 +5,7 @@ use native.Mathlib.Omega.{arith}
 use mathlib.Core.Path.{_≡_, refl, sym, ap, ap₂, _∙_}
 use mathlib.Core.Bool.{Bool, true, false, cond}
 use mathlib.Core.Option.{Option}
-use mathlib.Core.List.{List, [], _∷_, _++_, append-assoc}
+use mathlib.Core.List.{List, [], _∷_, _++_}
 use lib.ListN.{length, getD}
 use Rattle.masks.specs.declared.Mask.{Mask}
 use Rattle.widths.specs.declared.Width.the-variants.{Unknown as Wide}
@@ -22,8 +22,8 @@ use Rattle.form_laws.proofs.Each.{suc-out, row-at}
 use Rattle.form_laws.specs.Good.{noChunk, chunkNo}
 use Rattle.layout.specs.Layout.{slotAt, resultAt}
 use Rattle.visit.specs.Held.{factsIn}
-use Rattle.run_state.specs.Course.{statesIn, pastIn, finalIn, knownAs}
-use Rattle.run_state.proofs.Rows.{stateAt}
+use Rattle.run_state.specs.Course.{statesIn, pastIn, finalIn, knownAs, stateAt}
+use Rattle.report_laws.proofs.Walk.{each-append}
 use Rattle.report_size.specs.Reporting.{reportIn}
 use Rattle.report_size.specs.Span.{spread, span}
 use Rattle.report_size.proofs.Span.{span-same}
@@ -34,17 +34,12 @@ privateAt s ws n = slotBytes (bareAt ws (slotAt (moduleOf s) n))
 
 -- ---- the definition's lists
 module _ {A : Type 0} (f : A → List ℕ) where
-  each-append : (xs ys : List A) → each f (xs ++ ys) ≡ each f xs ++ each f ys
-  unfolding each
-  each-append [] ys = refl
-  each-append (x ∷ xs) ys = ap (λ (l : List ℕ). f x ++ l) (each-append xs ys) ∙ sym (append-assoc (f x) (each f xs) (each f ys))
-
   each-states : (h : ℕ → State → List A) (st : ℕ → Option State) (i n : ℕ)
       → each f (fromStates h i (row st i n)) ≡ spread (λ k. each f (fromState h k (st k))) i n
   unfolding each fromStates row spread
   each-states h st i zero = refl
   each-states h st i (suc n) =
-      each-append (fromState h i (st i)) (fromStates h (suc i) (row st (suc i) n))
+      each-append f (fromState h i (st i)) (fromStates h (suc i) (row st (suc i) n))
       ∙ ap (λ (l : List ℕ). each f (fromState h i (st i)) ++ l) (each-states h st (suc i) n)
 
   each-chunks : (g : Chunk → ℕ → State → List A) (c : ℕ → Chunk) (p : ℕ → List (Option State)) (i n : ℕ)
@@ -52,7 +47,7 @@ module _ {A : Type 0} (f : A → List ℕ) where
   unfolding each fromChunks row spread
   each-chunks g c p i zero = refl
   each-chunks g c p i (suc n) =
-      each-append (fromStates (g (c i)) 0 (p i)) (fromChunks g (row c (suc i) n) (row p (suc i) n))
+      each-append f (fromStates (g (c i)) 0 (p i)) (fromChunks g (row c (suc i) n) (row p (suc i) n))
       ∙ ap (λ (l : List ℕ). each f (fromStates (g (c i)) 0 (p i)) ++ l) (each-chunks g c p (suc i) n)
 
 -- a list is its elements, one by one

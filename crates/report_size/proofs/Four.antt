@@ -6,9 +6,15 @@ use mathlib.Core.Option.{Option, none, some}
 use mathlib.Core.List.{List, [], _∷_}
 use lib.Dec.{eqb}
 use lib.ListN.{length}
+use Rattle.masks.specs.declared.Mask.{Mask}
+use Rattle.widths.specs.declared.Width.{Width}
+use Rattle.extents.specs.declared.Extent.{Extent}
 use Rattle.flows.specs.declared.Flow.{Flow}
+use Rattle.flows.specs.declared.Owned.{Owned}
 use Rattle.flows.specs.Flow.{joinFlow, noFlow}
 use Rattle.cells.specs.declared.Cell.{Cell}
+use Rattle.cells.specs.Cell.{made}
+use Rattle.packing.specs.Packing.{construction}
 use Rattle.ops.specs.declared.Makes.{Makes}
 use Rattle.ops.specs.declared.Makes.the-variants.{Anything, Constant, Immediate, Local, Operand, OperandMask, Reply, Result, Common, Kind, Negation, OneKind, Slots, Composite, Part, NativeValue}
 use Rattle.ops.specs.declared.Others.{Others}
@@ -19,12 +25,12 @@ use Rattle.words.specs.Rows.{cellsAt}
 use Rattle.definition.specs.Module.{Module, Site, Native, row, moduleOf}
 use Rattle.description.specs.declared.Instr.{Instr}
 use Rattle.definition.specs.State.{Facts}
-use Rattle.definition.specs.Data.{isBody, flowIn, privateCell, readSlots}
-use Rattle.definition.specs.Outputs.{Visit, instr, at, withPredicate, withOrigin, constantCell, fieldCell, nativeCell, replyShape, replyCell, compositeCell, firstOutput, secondOutput, restOutput, tested, madeFrom, outputs, output}
+use Rattle.definition.specs.Data.{isBody, flowIn, privateCell, fresh, readSlots}
+use Rattle.definition.specs.Outputs.{Visit, instr, noCell, at, withPredicate, withOrigin, constantCell, fieldCell, nativeCell, replyShape, replyCell, compositeCell, firstOutput, secondOutput, restOutput, tested, madeFrom, outputs, output}
 use Rattle.definition.specs.Leaves.{visitOf}
 use Rattle.definition.specs.Report.{cellBytes}
 use Rattle.machine_laws.proofs.All.{All, nil, cons, all-get}
-use Rattle.report_laws.proofs.Cells.{cell-long}
+use Rattle.report_laws.proofs.Cells.{Sayable, cell-long}
 use Rattle.report_laws.proofs.Kept.{flow-none, cell-made, cell-fresh, cell-none, cell-construction, joined-long}
 use Rattle.visit.specs.declared.RowVisit.{RowVisit}
 use Rattle.visit.specs.Held.{Looking, argsIn, factsIn, stateOf, visitIn}
@@ -38,6 +44,22 @@ Four c = FourIn (c .flow)
 
 pub four-long : (c : Cell) → Four c → length (cellBytes c) ≡ 49
 four-long c h = cell-long c h
+
+-- ---- new values, whatever locals are named
+unset-four : FourIn noFlow
+unset-four = flow-none {N = Sayable} .four
+
+made-four : (k : Mask) (n : ℕ) → Four (made k n)
+made-four k n = cell-made {N = Sayable} k n .four
+
+fresh-four : (k : Mask) (w : Width) (o : Owned) → Four (fresh k w o)
+fresh-four k w o = cell-fresh {N = Sayable} k w o .four
+
+none-four : Four noCell
+none-four = cell-none {N = Sayable} .four
+
+construction-four : (k : ℕ) (x : Extent) → Four (construction k x)
+construction-four k x = cell-construction {N = Sayable} k x .four
 
 -- ---- the workspace's
 pub four-at : (ws : List ℕ) (p : ℕ) → Four (cellAt ws p)
@@ -68,59 +90,59 @@ four-flows : (f : Facts) (so : Flow) (ns : List ℕ) → All FourIn (f .flows) �
 unfolding flowIn joinFlow
 four-flows f so [] a h = h
 four-flows f so (n ∷ ns) a h =
-    let w = all-get FourIn n (flow-none .four) a in
+    let w = all-get FourIn n unset-four a in
     four-flows f _ ns a (joined-long (so .bodies) _ (h ∙ sym w) ∙ h)
 
 four-read : (m : Module) (f : Facts) (n : ℕ) (ns : List ℕ) → All FourIn (f .flows) → Four (readSlots m f n ns)
 unfolding readSlots privateCell
-four-read m f n ns a = pick (isBody m n) _ _ (four-flows f noFlow ns a (flow-none .four)) (cell-fresh _ _ _ .four)
+four-read m f n ns a = pick (isBody m n) _ _ (four-flows f noFlow ns a unset-four) (fresh-four _ _ _)
 
 four-site : (o : Option Site) → Four (replyCell o)
 unfolding replyCell replyShape
-four-site none = cell-none .four
-four-site (some x) = cell-fresh _ _ _ .four
+four-site none = none-four
+four-site (some x) = fresh-four _ _ _
 
 four-native : (o : Option Native) (n : ℕ) → Four (nativeCell o n)
 unfolding nativeCell
-four-native none n = cell-made _ _ .four
-four-native (some x) n = cell-fresh _ _ _ .four
+four-native none n = made-four _ _
+four-native (some x) n = fresh-four _ _ _
 
 four-first : (v : Visit) (k : Makes) → FourVisit v → Four (firstOutput v k)
 unfolding firstOutput constantCell fieldCell compositeCell withOrigin withPredicate
-four-first v Anything p = cell-made _ _ .four
-four-first v Constant p = pick (eqb (instr v .c) 0) _ _ (cell-made _ _ .four) (cell-fresh _ _ _ .four)
-four-first v Immediate p = cell-made _ _ .four
-four-first v Local p = all-get Four (instr v .a) (cell-none .four) (p .locals)
-four-first v Operand p = all-get Four 0 (cell-none .four) (p .args)
-four-first v OperandMask p = cell-made _ _ .four
+four-first v Anything p = made-four _ _
+four-first v Constant p = pick (eqb (instr v .c) 0) _ _ (made-four _ _) (fresh-four _ _ _)
+four-first v Immediate p = made-four _ _
+four-first v Local p = all-get Four (instr v .a) none-four (p .locals)
+four-first v Operand p = all-get Four 0 none-four (p .args)
+four-first v OperandMask p = made-four _ _
 four-first v Reply p = four-site (v .line .site)
-four-first v Result p = all-get Four (instr v .a) (cell-none .four) (p .results)
-four-first v (Common m) p = cell-made _ _ .four
-four-first v (Kind m) p = cell-made _ _ .four
-four-first v Negation p = cell-made _ _ .four
-four-first v OneKind p = cell-made _ _ .four
+four-first v Result p = all-get Four (instr v .a) none-four (p .results)
+four-first v (Common m) p = made-four _ _
+four-first v (Kind m) p = made-four _ _
+four-first v Negation p = made-four _ _
+four-first v OneKind p = made-four _ _
 four-first v Slots p = four-read _ _ _ _ (p .flows)
-four-first v Composite p = pick (eqb (instr v .a) 0) _ _ (cell-construction _ _ .four) (cell-made _ _ .four)
-four-first v Part p = pick (eqb (instr v .a) 0) _ _ (cell-made _ _ .four) (pick (eqb (instr v .a) 1) _ _ (cell-fresh _ _ _ .four) (cell-made _ _ .four))
+four-first v Composite p = pick (eqb (instr v .a) 0) _ _ (construction-four _ _) (made-four _ _)
+four-first v Part p = pick (eqb (instr v .a) 0) _ _ (made-four _ _) (pick (eqb (instr v .a) 1) _ _ (fresh-four _ _ _) (made-four _ _))
 four-first v NativeValue p = four-native (at (v .code .natives) (instr v .a)) _
 
 four-second : (k : Others) (i : Instr) (c : Cell) (float : ℕ) → Four c → Four (secondOutput k i c float)
 unfolding secondOutput tested withPredicate
-four-second Unknowns i c float h = cell-made _ _ .four
-four-second Words i c float h = cell-made _ _ .four
-four-second Checked i c float h = cell-made _ _ .four
+four-second Unknowns i c float h = made-four _ _
+four-second Words i c float h = made-four _ _
+four-second Checked i c float h = made-four _ _
 four-second Copies i c float h = h
-four-second (Tested k) i c float h = cell-made _ _ .four
-four-second Status i c float h = cell-made _ _ .four
+four-second (Tested k) i c float h = made-four _ _
+four-second Status i c float h = made-four _ _
 
 four-rest : (k : Others) (c : Cell) (float : ℕ) → Four c → Four (restOutput k c float)
 unfolding restOutput
-four-rest Unknowns c float h = cell-made _ _ .four
-four-rest Words c float h = cell-made _ _ .four
-four-rest Checked c float h = cell-made _ _ .four
+four-rest Unknowns c float h = made-four _ _
+four-rest Words c float h = made-four _ _
+four-rest Checked c float h = made-four _ _
 four-rest Copies c float h = h
-four-rest (Tested k) c float h = cell-made _ _ .four
-four-rest Status c float h = cell-made _ _ .four
+four-rest (Tested k) c float h = made-four _ _
+four-rest Status c float h = made-four _ _
 
 four-output : (v : Visit) → FourVisit v → (k : ℕ) → Four (output (outputs v) k)
 unfolding outputs madeFrom output

@@ -54,9 +54,12 @@ cond-most : (b : Bool) (n m : ℕ) → n ≤ m → cond b n 0 ≤ m
 cond-most true n m h = h
 cond-most false n m h = omega arith
 
-pub few-recordable : (s ws : List ℕ) → Indexed s ws → (c : ℕ) → c < length (moduleOf s .chunks) → recordable s c ≤ 4096
+pub coded-recordable : (s : List ℕ) (c : ℕ) → recordable s c ≤ length (chunkNo (moduleOf s) c .code)
 unfolding recordable
-few-recordable s ws x c h = cond-most (chunkNo (moduleOf s) c .reachable) _ 4096 (x .good .eachChunk c h .code)
+coded-recordable s c = cond-most (chunkNo (moduleOf s) c .reachable) _ _ (omega arith)
+
+pub few-recordable : (s ws : List ℕ) → Indexed s ws → (c : ℕ) → c < length (moduleOf s .chunks) → recordable s c ≤ 4096
+few-recordable s ws x c h = omega (arith, coded-recordable s c, x .good .eachChunk c h .code)
 
 module _ (s ws : List ℕ) (t : Tables) (f : Finished s ws t) (c : ℕ) (ch : ChunkNumbers) (i : ℕ) (h : Here s ws c ch i) where
   pub indexed : Indexed s ws

@@ -1,6 +1,7 @@
 pub mod Guards
 pub mod Adds
 pub mod Beside
+pub mod Few
 pub mod Four
 pub mod Here
 pub mod Long

@@ -23,8 +23,7 @@ use Rattle.report_laws.proofs.Back.{recordIn, guards-long}
 use Rattle.row_join.specs.joining.Leave.{stateBy, stateIn}
 use Rattle.visit.specs.declared.RowVisit.{RowVisit}
 use Rattle.visit.specs.Held.{Looking, knownIn, stateOf, visitIn}
-use Rattle.run_state.specs.Course.{knownAs}
-use Rattle.run_state.proofs.Rows.{stateAt}
+use Rattle.run_state.specs.Course.{knownAs, stateAt}
 use Rattle.visit.proofs.operands.Parts.{ins-is}
 use Rattle.report_laws.proofs.Walk.{field-long}
 use Rattle.report_size.proofs.Four.{Four, four-at, four-long, looked-four}

@@ -14,8 +14,7 @@ use Rattle.definition.specs.Report.{recordOf, inspectionOf, branchOf, fromState
 use Rattle.form_laws.specs.Good.{chunkNo}
 use Rattle.layout.specs.Layout.{inputAt, resultAt}
 use Rattle.visit.specs.Held.{factsIn}
-use Rattle.run_state.specs.Course.{knownAs}
-use Rattle.run_state.proofs.Rows.{stateAt}
+use Rattle.run_state.specs.Course.{knownAs, stateAt}
 use Rattle.report_size.specs.Span.{span}
 
 -- ---- signatures and slots

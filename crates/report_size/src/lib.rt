@@ -26,6 +26,7 @@ ghost use lib.ListN.{length};
 ghost use Rattle.definition.specs.Module.{moduleOf};
 ghost use Rattle.definition.specs.Wants.{guards};
 ghost use Rattle.definition.specs.Report.{reportBytes};
+ghost use Rattle.form_laws.specs.Good.{chunkNo};
 ghost use Rattle.layout.specs.Indexed.{Indexed, tablesOf};
 ghost use Rattle.visit.specs.Held.{visitIn};
 ghost use Rattle.run_state.specs.Course.{Ended};
@@ -78,7 +79,9 @@ fn instr_bytes(s: &[u8], ws: &[u32], t: Tables, c: usize, ch: Chunk, i: usize) -
 fn chunk_bytes(s: &[u8], ws: &[u32], t: Tables, c: usize) -> usize
     requires { ⌜ Finished (now s) (now ws) t ⌝ }
     requires { ⌜ c < length (moduleOf (now s) .chunks) ⌝ }
-    ensures { λ r. ⌜ (r ≡ length (allIn (now (s .entry)) (now (ws .entry)) c)) × (r ≤ 66232320) ⌝ }
+    ensures { λ r. ⌜
+        (r ≡ length (allIn (now (s .entry)) (now (ws .entry)) c)) × (r ≤ 16170 * length (chunkNo (moduleOf (now (s .entry))) c .code))
+        ⌝ }
 {
     let ch = chunk_at(s, ws, c);
     let count = recorded_count(ch);

@@ -19,9 +19,10 @@ ghost use Rattle.words.specs.Layout.{cellAt};
 ghost use Rattle.words.specs.Rows.{cellsAt};
 ghost use Rattle.row_join.specs.places.Arrive.{metCell, keptCell, untouchedAt, PlacesApart, Arrived};
 
-// A cell arrives where another stands, or at a fresh place.
-fn meet(fresh: bool, old: Cell, new: Cell) -> JoinedCell
-    ensures { λ r. ⌜ r ≡ metCell fresh old new ⌝ }
+// A cell arrives where another stands, or at a fresh place, whose words are not read: nobody may have written them.
+fn meet(ws: &[u32], to: usize, fresh: bool, new: Cell) -> JoinedCell
+    requires { ⌜ to + 16 ≤ length (now ws) ⌝ }
+    ensures { λ r. ⌜ r ≡ metCell fresh (cellAt (now (ws .entry)) to) new ⌝ }
 {
     if fresh {
         return JoinedCell {
@@ -29,6 +30,7 @@ fn meet(fresh: bool, old: Cell, new: Cell) -> JoinedCell
             changed: true,
         };
     }
+    let old = load(ws, to);
     old.join(new)
 }
 
@@ -36,7 +38,7 @@ pub fn join_one(ws: &mut [u32], to: usize, fresh: bool, new: Cell) -> bool
     requires { ⌜ to + 16 ≤ length (now ws) ⌝ }
     ensures { λ r. ⌜ Arrived fresh to 1 (new ∷ []) (now (ws .entry)) (now (ws .exit)) r ⌝ }
 {
-    let j = meet(fresh, load(ws, to), new);
+    let j = meet(ws, to, fresh, new);
     store(ws, to, j.cell);
     j.changed
 }

@@ -19,7 +19,7 @@ use Rattle.ops.specs.declared.Data.{Data}
 use Rattle.ops.specs.declared.Data.the-variants.{NoSlot, OneSlot, ManySlots}
 use Rattle.ops.specs.Numbers.{opGetLocal, opSetLocal, opCall, opReturn, opYield}
 use Rattle.ops.specs.Ops.{rules, ruleOf}
-use Rattle.definition.specs.Form.{callee, fits, fitOf}
+use Rattle.definition.specs.Form.{local, callee, fits, fitOf}
 use Rattle.rule_laws.proofs.Table.{every-rule}
 
 abbrev pub namesSlots : Data → Bool
@@ -98,7 +98,11 @@ module _ (op : ℕ) where
   pub asks-returned : ruleOf op .asks ≡ Returned → ruleOf op .acts ≡ Returns
   asks-returned e = rw (eqb-true op opReturn (rw e at asked-by)) return-acts
 
-  -- a `Call` names its callee
+  -- a `Call` names its callee, a `GetLocal` its local
   pub call-callee : op ≡ opCall → fitOf op .meaning ≡ callee
   unfolding fitOf fits
   call-callee e = rw e
+
+  pub get-local : op ≡ opGetLocal → fitOf op .meaning ≡ local
+  unfolding fitOf fits
+  get-local e = rw e

@@ -3,20 +3,19 @@ use Prim.Native.Nat.{ℕ, zero, suc, _+_, _*_, _-_, _<_, _≤_}
 use native.Mathlib.Omega.{arith}
 use mathlib.Core.Path.{_≡_, refl, sym, ap, ap₂, _∙_}
 use mathlib.Core.Bool.{Bool, true, false, cond}
-use mathlib.Core.Option.{Option, none, some}
+use mathlib.Core.Option.{none, some}
 use mathlib.Core.List.{List, [], _∷_}
 use lib.ListN.{length, getD, set}
 use Rattle.words.specs.Rows.{cellsAt}
 use Rattle.words.proofs.RowLaws.{cellsAt-same}
 use Rattle.definition.specs.Module.{row, moduleOf}
-use Rattle.definition.specs.State.{State}
 use Rattle.form_laws.proofs.Each.{suc-out, row-length, row-at}
 use Rattle.form_laws.specs.Good.{chunkNo, rowCells}
 use Rattle.layout.specs.Layout.{rowAt, localsAt, rowHead, stackAt}
 use Rattle.layout.proofs.Apart.{by-order, row-before, row-begins, row-in, rows-end, area-apart, result-begins, result-next}
 use Rattle.layout.proofs.Kept.{steady-refl, steady-trans}
 use Rattle.row_join.specs.joining.Leave.{stateBy, stateIn}
-use Rattle.run_state.specs.Course.{statesIn, pastIn, Low, LowBefore, RowsOnly}
+use Rattle.run_state.specs.Course.{stateAt, statesIn, pastIn, Low, LowBefore, RowsOnly}
 
 -- ---- lists built element by element
 pub row-same : {A : Type 0} (f g : ℕ → A) (i n : ℕ) → ((k : ℕ) → i ≤ k → k < i + n → f k ≡ g k) → row f i n ≡ row g i n
@@ -66,26 +65,22 @@ state-kept ws v at stack locals l e =
 
 -- ---- the states of a chunk
 module _ (s : List ℕ) (n : ℕ) where
-  -- the state of the instruction i
-  abbrev pub stateAt : List ℕ → ℕ → Option State
-  stateAt ws i = stateIn ws (rowAt (moduleOf s) n i) (chunkNo (moduleOf s) n .stack) (chunkNo (moduleOf s) n .locals)
-
   -- the row of the instruction i has the same words
   abbrev pub SameRow : List ℕ → List ℕ → ℕ → Type 0
   SameRow ws v i = SameWords ws v (rowAt (moduleOf s) n i) (16 * rowCells (chunkNo (moduleOf s) n))
 
   pub states-length : (ws : List ℕ) → length (statesIn s ws n) ≡ length (chunkNo (moduleOf s) n .code)
   unfolding statesIn
-  states-length ws = row-length (stateAt ws) 0 (length (chunkNo (moduleOf s) n .code))
+  states-length ws = row-length (stateAt s n ws) 0 (length (chunkNo (moduleOf s) n .code))
 
-  pub states-at : (ws : List ℕ) (i : ℕ) → i < length (chunkNo (moduleOf s) n .code) → getD (statesIn s ws n) i none ≡ stateAt ws i
+  pub states-at : (ws : List ℕ) (i : ℕ) → i < length (chunkNo (moduleOf s) n .code) → getD (statesIn s ws n) i none ≡ stateAt s n ws i
   unfolding statesIn
   states-at ws i l =
       let z : 0 + i ≡ i = omega arith in
-      row-at (stateAt ws) none 0 (length (chunkNo (moduleOf s) n .code)) i l ∙ ap (stateAt ws) z
+      row-at (stateAt s n ws) none 0 (length (chunkNo (moduleOf s) n .code)) i l ∙ ap (stateAt s n ws) z
 
   module _ (ws v : List ℕ) (low : Low s ws n) where
-    one-kept : (i : ℕ) → i < length (chunkNo (moduleOf s) n .code) → SameRow ws v i → stateAt v i ≡ stateAt ws i
+    one-kept : (i : ℕ) → i < length (chunkNo (moduleOf s) n .code) → SameRow ws v i → stateAt s n v i ≡ stateAt s n ws i
     unfolding Low
     one-kept i l e =
         state-kept ws v (rowAt (moduleOf s) n i) (chunkNo (moduleOf s) n .stack) (chunkNo (moduleOf s) n .locals) (low i l)
@@ -94,19 +89,19 @@ module _ (s : List ℕ) (n : ℕ) where
     pub states-kept : ((i : ℕ) → i < length (chunkNo (moduleOf s) n .code) → SameRow ws v i) → statesIn s v n ≡ statesIn s ws n
     unfolding statesIn
     states-kept e =
-        row-same (stateAt v) (stateAt ws) 0 (length (chunkNo (moduleOf s) n .code))
+        row-same (stateAt s n v) (stateAt s n ws) 0 (length (chunkNo (moduleOf s) n .code))
         (λ i a b. one-kept i (omega arith) (e i (omega arith)))
 
     -- all but the row of the instruction t
     pub states-set : (t : ℕ) → t < length (chunkNo (moduleOf s) n .code)
         → ((i : ℕ) → i < length (chunkNo (moduleOf s) n .code) → (i ≡ t → ⊥) → SameRow ws v i)
-        → statesIn s v n ≡ set (statesIn s ws n) t (stateAt v t)
+        → statesIn s v n ≡ set (statesIn s ws n) t (stateAt s n v t)
     unfolding statesIn
     states-set t l e =
         let z : 0 + t ≡ t = omega arith in
-        row-set (stateAt ws) (stateAt v) 0 (length (chunkNo (moduleOf s) n .code)) t l
+        row-set (stateAt s n ws) (stateAt s n v) 0 (length (chunkNo (moduleOf s) n .code)) t l
         (λ i a b d. one-kept i (omega arith) (e i (omega arith) (λ q. d (omega arith))))
-        ∙ ap (λ (k : ℕ). set (row (stateAt ws) 0 (length (chunkNo (moduleOf s) n .code))) t (stateAt v k)) z
+        ∙ ap (λ (k : ℕ). set (row (stateAt s n ws) 0 (length (chunkNo (moduleOf s) n .code))) t (stateAt s n v k)) z
 
     pub low-kept : ((i : ℕ) → i < length (chunkNo (moduleOf s) n .code) → SameRow ws v i) → Low s v n
     unfolding Low

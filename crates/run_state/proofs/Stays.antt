@@ -16,7 +16,8 @@ use Rattle.form_laws.specs.Good.{chunkNo}
 use Rattle.layout.specs.Layout.{areaOf, slotAt, inputAt, resultAt, rowsAt}
 use Rattle.layout.specs.Indexed.{Indexed, suspendsAt}
 use Rattle.layout.proofs.Apart.{by-order, area-apart, areas-behind, slots-first, inputs-begin, result-begins, result-next, rows-in-area, rows-in, rows-end}
-use Rattle.layout.proofs.Kept.{Steady, indexed-steady, suspends-steady}
+use Rattle.layout.specs.Kept.{Steady}
+use Rattle.layout.proofs.Kept.{indexed-steady, suspends-steady}
 use Rattle.visit.specs.Held.{factsIn, writesIn, liveIn, knownIn}
 use Rattle.run_state.specs.Course.{statesIn, Prepared, Low, RowsOnly, FactsOnly}
 use Rattle.run_state.proofs.Rows.{row-same, by-offset, SameRow, states-kept, low-kept}

@@ -15,16 +15,18 @@ use Rattle.definition.specs.Start.{admitted, firstFacts, knownOf}
 use Rattle.form_laws.specs.Good.{chunkNo, rowCells, wordsOf}
 use Rattle.layout.specs.Layout.{rowsAt, rowAt}
 use Rattle.layout.specs.Indexed.{Indexed}
-use Rattle.layout.proofs.Kept.{Steady}
+use Rattle.layout.specs.Kept.{Steady}
 use Rattle.row_join.specs.joining.Leave.{stateIn}
 use Rattle.visit.specs.Held.{factsIn, liveIn, knownIn}
 use Rattle.run_state.specs.declared.Run.{Run}
 
+-- the state of the instruction i of the chunk n
+abbrev pub stateAt : List ℕ → ℕ → List ℕ → ℕ → Option State
+stateAt s n ws i = stateIn ws (rowAt (moduleOf s) n i) (chunkNo (moduleOf s) n .stack) (chunkNo (moduleOf s) n .locals)
+
 -- the states of the chunk n, one for each instruction
 unfoldable pub statesIn : List ℕ → List ℕ → ℕ → List (Option State)
-statesIn s ws n =
-    row (λ i. stateIn ws (rowAt (moduleOf s) n i) (chunkNo (moduleOf s) n .stack) (chunkNo (moduleOf s) n .locals)) 0
-    (length (chunkNo (moduleOf s) n .code))
+statesIn s ws n = row (stateAt s n ws) 0 (length (chunkNo (moduleOf s) n .code))
 
 -- the states of the chunks before n; an unreachable one has none
 unfoldable pub pastIn : List ℕ → List ℕ → ℕ → List (List (Option State))

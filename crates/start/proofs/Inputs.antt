@@ -22,7 +22,8 @@ use Rattle.layout.specs.Layout.{areaOf, inputAt, resultAt, rowsAt}
 use Rattle.layout.specs.Indexed.{Indexed, chunkAt}
 use Rattle.layout.proofs.Apart.{by-order, inputs-begin, result-begins, result-next, rows-in-area, rows-in, area-apart, input-in, result-in}
 use Rattle.layout.proofs.Read.{input-is, result-is, params-is}
-use Rattle.layout.proofs.Kept.{Steady, facts-free, steady-free, steady-refl, steady-trans}
+use Rattle.layout.specs.Kept.{Steady}
+use Rattle.layout.proofs.Kept.{facts-free, steady-free, steady-refl, steady-trans}
 use Rattle.run_state.proofs.Stays.{inputs-end}
 use Rattle.start.specs.Inputs.{ChunkIn, ChunksDeclared, InputsIn}
 

@@ -32,7 +32,8 @@ use Rattle.layout.specs.Layout.{areaOf, slotAt, inputAt, resultAt, headWords}
 use Rattle.layout.specs.Indexed.{Indexed, Fresh, tablesOf, suspendsAt}
 use Rattle.layout.proofs.Apart.{areas-behind, slots-behind, slots-first, inputs-begin, result-begins, reply-in}
 use Rattle.layout.proofs.Read.{shared-are}
-use Rattle.layout.proofs.Kept.{Steady, steady-put, steady-trans, reply-free, indexed-steady, indexed-put, suspends-steady}
+use Rattle.layout.specs.Kept.{Steady}
+use Rattle.layout.proofs.Kept.{steady-put, steady-trans, reply-free, indexed-steady, indexed-put, suspends-steady}
 use Rattle.visit.specs.Held.{factsIn, writesIn, liveIn, knownIn}
 use Rattle.run_state.specs.Course.{Prepared, knownAs}
 use Rattle.run_state.proofs.Rows.{row-same}

@@ -10,7 +10,7 @@ use Rattle.definition.specs.Module.{moduleOf}
 use Rattle.definition.specs.Start.{declaredParams}
 use Rattle.form_laws.specs.Good.{chunkNo, noShape, wordsOf}
 use Rattle.layout.specs.Layout.{areaOf, inputAt, resultAt, rowsAt}
-use Rattle.layout.proofs.Kept.{Steady}
+use Rattle.layout.specs.Kept.{Steady}
 
 -- ---- what is written
 -- the first k inputs of the chunk c

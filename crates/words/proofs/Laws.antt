@@ -204,8 +204,8 @@ sames-whole w a b zero h = refl
 sames-whole w a b (suc n) h =
     ap₂ _&&_ (sames-whole w a b n (λ k l. h k (omega arith))) (eq-eqb (getD w (a + n) 0) (getD w (b + n) 0) (h n (omega arith)))
 
-pub same-cells : (w : List ℕ) (a b : ℕ) → sameN w a b 16 ≡ true → cellAt w a ≡ cellAt w b
-same-cells w a b e = cellAt-same w w a b (λ k l. sames-true w a b 16 e k (omega arith))
+pub same-cells : (w : List ℕ) (a b : ℕ) → sameN w a b 15 ≡ true → cellAt w a ≡ cellAt w b
+same-cells w a b e = cellAt-same w w a b (sames-true w a b 15 e)
 
 -- ---- a copy
 pub length-copyN : (w : List ℕ) (a b n : ℕ) → length (copyN w a b n) ≡ length w

@@ -16,7 +16,7 @@ use masks::Mask;
 use widths::Width;
 
 // The words that are the cell's: the last is not.
-const CELL_WORDS: usize = 15;
+pub const CELL_WORDS: usize = 15;
 
 struct Two(u32, u32);
 

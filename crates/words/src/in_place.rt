@@ -1,4 +1,5 @@
 // What a cell's words say without loading it: its mask, whether it has a flow, whether it is the same as another.
+use crate::cell::CELL_WORDS;
 use masks::Mask;
 ghost use mathlib.Core.Path.{_≡_};
 ghost use Prim.Native.Nat.{_+_, _≤_, _<_};
@@ -14,15 +15,15 @@ pub fn mask_at(ws: &[u32], at: usize) -> Mask
     }
 }
 
-// The cells at a and b are the same words, the last one too, so that all 16 are compared at once.
+// The cells at a and b are the same words. The last of the sixteen is not the cell's, and nobody may have written it.
 pub fn same16(ws: &[u32], a: usize, b: usize) -> bool
-    requires { ⌜ a + 16 ≤ length (now ws) ⌝ }
-    requires { ⌜ b + 16 ≤ length (now ws) ⌝ }
-    ensures { λ r. ⌜ r ≡ sameN (now (ws .entry)) a b 16 ⌝ }
+    requires { ⌜ a + 15 ≤ length (now ws) ⌝ }
+    requires { ⌜ b + 15 ≤ length (now ws) ⌝ }
+    ensures { λ r. ⌜ r ≡ sameN (now (ws .entry)) a b 15 ⌝ }
 {
     let mut k = 0;
     let mut same = true;
-    while k < 16 {
+    while k < CELL_WORDS {
         same = same & (ws[a + k] == ws[b + k]);
         k += 1;
     }

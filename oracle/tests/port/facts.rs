@@ -31,6 +31,11 @@ pub enum Sought {
     Disagrees(Refusal),
 }
 
+pub enum Enough {
+    Room { words: u64, report: u64 },
+    Refused(Refusal),
+}
+
 fn wrong(how: &str) -> bool {
     static WRONG: std::sync::OnceLock<String> = std::sync::OnceLock::new();
     WRONG.get_or_init(|| std::env::var("WRONG").unwrap_or_default()) == how
@@ -73,6 +78,23 @@ fn without_next_branches(d: &Description, report: &[u8]) -> Vec<u8> {
         rest = after;
     }
     kept
+}
+
+/// W, asked with no workspace at all; a bound that no report passes, or one that every report does.
+pub fn sizes(description: &[u8]) -> Enough {
+    let measured = oracle::run::measure(description, 0, 0, 0);
+    match (measured.least_words, measured.outcome) {
+        (None, Outcome::Refused(r)) => Enough::Refused(Refusal {
+            number: r.number ^ u8::from(wrong("sizes refused")),
+            chunk: r.chunk,
+            instruction: r.instruction,
+            steps: r.steps,
+        }),
+        (least, _) => Enough::Room {
+            words: least.expect("W") + 1 + u64::from(wrong("least workspace")),
+            report: if wrong("most bytes") { 6 } else { u64::MAX },
+        },
+    }
 }
 
 pub fn check(description: &[u8], workspace: &mut [u32], report: &mut [u8], limit: u32) -> Answer {

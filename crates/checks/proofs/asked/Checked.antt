@@ -20,7 +20,7 @@ use Rattle.definition.specs.declared.Want.{Want}
 use Rattle.definition.specs.declared.Check.{Check}
 use Rattle.definition.specs.declared.Check.the-variants.{Fine, Unproven}
 use Rattle.definition.specs.Module.{row}
-use Rattle.definition.specs.Outputs.{Visit, arg, instr, constructedExtent}
+use Rattle.definition.specs.Outputs.{Visit, instr, noCell, constructedExtent}
 use Rattle.definition.specs.Wants.{require, atIndex, operandCheck, operandChecks, Asked, returned, checksBy, checks, isProven, allProven, guardOf, guardsIn, guards, isUnknown, unpacked, unfit}
 use Rattle.layout.specs.Layout.{placeAt, stackAt}
 use Rattle.visit.specs.declared.RowVisit.{RowVisit}
@@ -102,9 +102,9 @@ module _ (s ws : List ℕ) (v : RowVisit) (x : Looking s ws v) (w : Want) where
   returned-there : 0 < v .start → returned (visitIn s ws v) ≡ cellAt ws (placeAt (v .row) (v .start - 1))
   returned-there h =
       let u = visitIn s ws v in
-      ap (λ (n : ℕ). getD (u .below) (n - 1) (arg u 0)) (below-long s ws v x)
-      ∙ ap (λ (l : List Cell). getD l (v .start - 1) (arg u 0)) (below-is s ws v x)
-      ∙ cellsAt-getD ws (stackAt (v .row)) (v .start) (v .start - 1) (arg u 0) (omega arith)
+      ap (λ (n : ℕ). getD (u .below) (n - 1) noCell) (below-long s ws v x)
+      ∙ ap (λ (l : List Cell). getD l (v .start - 1) noCell) (below-is s ws v x)
+      ∙ cellsAt-getD ws (stackAt (v .row)) (v .start) (v .start - 1) noCell (omega arith)
 
   abbrev valueBy : Ask → ℕ → Mask → Check
   valueBy a p m = require m (w .first)

@@ -1,5 +1,5 @@
 -- `factlisting::list_facts` meets its contract.
-use Rattle.factlisting.proofs.Listed.{listed-long, listed-call}
+use Rattle.factlisting.proofs.Listed.{listed-long, listed-call, laid-whole}
 use borrow.Author.Needs.{needs}
 use Rattle.factlisting.proofs.list_facts.Statement.{statement}
 use Rattle.factlisting.proofs.list_facts.Tie as tie
@@ -17,7 +17,10 @@ same-length : tie.Need-same-length
 same-length c = search needs
 
 returns : tie.Need-returns
-returns c = rw (listed-long _ _ (c .before .before .before .before .before .before .if1 .taken) (c .before .before .before .before .before .nowhere .ensures)) (c .before .before .list .ensures)
+returns c =
+    laid-whole _ (c .before .before .before .before .before .before .before .before .before .pre)
+    (listed-long _ _ (c .before .before .before .before .before .before .if1 .taken) (c .before .before .before .before .before .nowhere .ensures))
+    (c .before .before .list .ensures)
 
 report-room-requires : tie.Need-report-room-requires
 report-room-requires c κs = search needs
@@ -44,7 +47,10 @@ same-length-2 : tie.Need-same-length-2
 same-length-2 c = search needs
 
 returns-2 : tie.Need-returns-2
-returns-2 c = rw (listed-call _ _ _ _ _ (c .before .before .before .before .before .before .before .before .before .before .before .before .if1 .left) (c .before .before .before .before .before .before .before .before .before .before .word-room .ensures .0) (c .before .before .before .before .before .before .before .before .before .before .before .report-room .ensures .0) (c .before .before .before .before .before .before .before .check .ensures .answer) (c .before .before .before .before .before .before .before .check .ensures .report)) (c .before .before .list2 .ensures)
+returns-2 c =
+    laid-whole _ (c .before .before .before .before .before .before .before .before .before .before .before .before .before .before .before .pre)
+    (listed-call _ _ _ _ _ (c .before .before .before .before .before .before .before .before .before .before .before .before .if1 .left) (c .before .before .before .before .before .before .before .before .before .before .word-room .ensures .0) (c .before .before .before .before .before .before .before .before .before .before .before .report-room .ensures .0) (c .before .before .before .before .before .before .before .check .ensures .answer) (c .before .before .before .before .before .before .before .check .ensures .report))
+    (c .before .before .list2 .ensures)
 
 pub list-facts-spec : {M : Type 1} → statement M
 list-facts-spec =

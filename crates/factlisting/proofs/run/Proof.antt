@@ -2,11 +2,9 @@
 use lib.ListN.{length-take}
 use native.Mathlib.Omega.{arith}
 use borrow.Author.Needs.{needs}
+use Rattle.factlisting.proofs.Listed.{listed-within}
 use Rattle.factlisting.proofs.run.Statement.{statement}
 use Rattle.factlisting.proofs.run.Tie as tie
-
-large-buffer-requires : tie.Need-large-buffer-requires
-large-buffer-requires c κs = search needs
 
 slice-aggregate-read-full : tie.Need-slice-aggregate-read-full
 slice-aggregate-read-full c = search needs
@@ -27,10 +25,15 @@ list-facts-requires : tie.Need-list-facts-requires
 list-facts-requires c κs = search needs
 
 array-share-prefix-text : tie.Need-array-share-prefix-text
-array-share-prefix-text c = search needs
+array-share-prefix-text c = omega (arith, listed-within _ (c .before .list-facts .ensures))
 
 slice-aggregate-write-all : tie.Need-slice-aggregate-write-all
-slice-aggregate-write-all c = omega (arith, length-take (c .before .before .list-facts .result) (c .before .before .list-facts .last .1 .0))
+slice-aggregate-write-all c =
+    omega (
+      arith,
+      listed-within _ (c .before .before .list-facts .ensures),
+      length-take (c .before .before .list-facts .result) (c .before .before .list-facts .last .1 .0),
+    )
 
 write-all-requires : tie.Need-write-all-requires
 write-all-requires c κs = search needs
@@ -42,7 +45,6 @@ pub run-spec : {M : Type 1} → statement M
 run-spec =
     tie.close
     (tie.spec
-    large-buffer-requires
     slice-aggregate-read-full
     read-full-requires
     array-share-prefix-description

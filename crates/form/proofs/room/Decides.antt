@@ -11,14 +11,9 @@ use Rattle.definition.specs.declared.Form.the-variants.{Fine, Refused}
 use Rattle.answers.specs.Answers.{nowhere}
 use Rattle.definition.specs.Form.{formOf}
 use Rattle.definition.specs.Module.{moduleOf}
-use Rattle.definition.specs.Call.{Decided, turned, decided, onForm, decide}
+use Rattle.definition.specs.Call.{turned, decided, onForm, decide}
 use Rattle.masks.proofs.Both.{never}
-use Rattle.form.specs.room.Room.{withRoom, roomBy, roomOf}
-
--- what is decided after the form and the room were looked at
-unfoldable pub onRoom : List ℕ → ℕ → ℕ → Form → Decided
-onRoom s words limit (Refused r) = turned r
-onRoom s words limit (Fine w) = decided (moduleOf s) (words - w) limit
+use Rattle.form.specs.room.Room.{withRoom, roomBy, roomOf, onRoom}
 
 room-by : (s : List ℕ) (words limit : ℕ) (f : Form) → onForm s words limit f ≡ onRoom s words limit (roomBy f words)
 unfolding onForm onRoom roomBy withRoom

@@ -13,7 +13,7 @@ use Rattle.words.proofs.Laws.{putN-out, length-putN}
 use Rattle.le.specs.Le.{at16}
 use Rattle.masks.specs.declared.Mask.{Mask}
 use Rattle.definition.specs.Module.{codeAfter, initOf}
-use Rattle.form_laws.proofs.Places.{codePlaces}
+use Rattle.form_laws.specs.Places.{codePlaces}
 use Rattle.layout.specs.declared.Tables.{Tables}
 use Rattle.layout.specs.Layout.{numbersAt, rowHead, rowField, wordCount, wordSuspends, headWords}
 use Rattle.index_fill.specs.declared.model.FillState.{FillState}

@@ -9,7 +9,7 @@ use lib.ListN.{length}
 use Rattle.description.specs.Fields.{nextAt, headerOf, fieldsFrom, ofTag}
 use Rattle.description.proofs.Walk.{fields-turn}
 use Rattle.definition.specs.Module.{Chunk, chunksFrom, moduleFrom, moduleOf}
-use Rattle.form_laws.proofs.Places.{placesFrom, places}
+use Rattle.form_laws.specs.Places.{placesFrom, places}
 use Rattle.form_laws.specs.Order.{ordered}
 use Rattle.form_laws.specs.Good.{Good, chunkCells, cellsIn, wordsOf}
 use Rattle.layout.specs.Layout.{areaCells}

@@ -10,7 +10,7 @@ use lib.ListN.{length, getD}
 use Rattle.description.specs.Fields.{tagAt, paramOf}
 use Rattle.words.proofs.Laws.{putN-in}
 use Rattle.definition.specs.Module.{Chunk, codeAfter, signedParams, chunkFrom, chunksFrom}
-use Rattle.form_laws.proofs.Places.{Placed, noPlace, codePlaces, placesFrom}
+use Rattle.form_laws.specs.Places.{Placed, noPlace, codePlaces, placesFrom}
 use Rattle.form_laws.specs.Good.{noChunk, rowCells}
 use Rattle.layout.specs.Layout.{cellsBefore, numbersAt, wordAt, wordCount, wordInputs, wordLocals, wordParams, wordReachable, wordRows, wordStack, wordStreams, wordSuspends}
 use Rattle.layout.specs.Indexed.{bit}

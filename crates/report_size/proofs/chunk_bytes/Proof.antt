@@ -8,7 +8,7 @@ use lib.ListN.{length}
 use Rattle.report_size.specs.Span.{span}
 use Rattle.report_size.proofs.Span.{span-none, long-more}
 use Rattle.report_size.specs.Adds.{recordable}
-use Rattle.report_size.proofs.Here.{count-recordable, counted-here, few-recordable}
+use Rattle.report_size.proofs.Here.{count-recordable, counted-here, coded-recordable, few-recordable}
 use Rattle.report_size.specs.Measured.{allFor, allIn}
 use Rattle.report_size.proofs.chunk_bytes.Statement.{statement}
 use Rattle.report_size.proofs.chunk_bytes.Tie as tie
@@ -64,7 +64,7 @@ returns c =
     let a = c .before .before .before .before .before .before .args in
     let i = c .before .loop .inv in
     let e = i .1 in
-    (i .3 ∙ ap (λ (k : ℕ). length (span (allFor (now (a .s)) (now (a .ws)) (a .c)) 0 k)) (omega (arith, i .0, e, c .loop-test .left)), omega (arith, i .0, i .2, i .4))
+    (i .3 ∙ ap (λ (k : ℕ). length (span (allFor (now (a .s)) (now (a .ws)) (a .c)) 0 k)) (omega (arith, i .0, e, c .loop-test .left)), omega (arith, i .0, e, i .4, coded-recordable (now (a .s)) (a .c)))
 
 pub chunk-bytes-spec : {M : Type 1} → statement M
 chunk-bytes-spec =

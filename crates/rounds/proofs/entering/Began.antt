@@ -28,14 +28,14 @@ use Rattle.layout.specs.declared.Tables.{Tables}
 use Rattle.layout.specs.Indexed.{tablesOf, chunkAt}
 use Rattle.layout.proofs.Read.{row-known}
 use Rattle.layout.proofs.Apart.{by-order, areas-behind, slots-first, inputs-first, result-begins, result-next, rows-begin, row-apart, row-begins, row-before, row-in, rows-in}
-use Rattle.layout.proofs.Kept.{Steady}
+use Rattle.layout.specs.Kept.{Steady}
 use Rattle.row_join.specs.joining.Leave.{stateBy, stateIn}
 use Rattle.visit.specs.Held.{factsIn}
 use Rattle.run_state.specs.declared.Run.{Run}
-use Rattle.run_state.specs.Course.{statesIn, machineIn, Low, LowBefore, Queued, Prepared, Between, RowsOnly}
+use Rattle.run_state.specs.Course.{statesIn, machineIn, Low, LowBefore, Queued, Prepared, Between, RowsOnly, stateAt}
 use Rattle.form_laws.proofs.Admitted.{chunk-admitted}
 use Rattle.run_state.proofs.Queues.{queued-push}
-use Rattle.run_state.proofs.Rows.{row-set, stateAt, past-kept, low-before-kept}
+use Rattle.run_state.proofs.Rows.{row-set, past-kept, low-before-kept}
 use Rattle.run_state.proofs.Stays.{inputs-end, rows-live, rows-prepared}
 use Rattle.form_laws.proofs.Tests.{ne-pos}
 use Rattle.rounds.specs.entering.Rows.{RowsThere, Cleared, LocalsThere, Filled, firstCell}

@@ -35,8 +35,7 @@ use Rattle.layout.specs.Layout.{placeAt, stackAt}
 use Rattle.layout.specs.Indexed.{Indexed, chunkAt}
 use Rattle.layout.proofs.Read.{row-is, row-known}
 use Rattle.row_join.specs.joining.Leave.{stateBy, stateIn}
-use Rattle.run_state.specs.Course.{statesIn, Low}
-use Rattle.run_state.proofs.Rows.{stateAt}
+use Rattle.run_state.specs.Course.{statesIn, Low, stateAt}
 use Rattle.rule_laws.proofs.Table.{every-rule}
 use Rattle.rounds.specs.inspecting.Fault.{Inspected, RowRead, enumFault, opFault, receiverFault, structFault}
 use Rattle.ops.specs.Numbers.{opIsEnum, opIsStruct}

@@ -162,7 +162,7 @@ arrived-copied from to w v s e =
     refl
     (rw e (outside-copy w from to 15))
 
-pub arrived-there : (from to : ℕ) (w : List ℕ) → sameN w from to 16 ≡ true → Arrived false to 1 (cellAt w from ∷ []) w w false
+pub arrived-there : (from to : ℕ) (w : List ℕ) → sameN w from to 15 ≡ true → Arrived false to 1 (cellAt w from ∷ []) w w false
 arrived-there from to w e =
     arrived-one false to (cellAt w from) w w false
     (sym takes)

@@ -9,7 +9,7 @@ use Rattle.definition.specs.Module.{row, moduleOf}
 use Rattle.definition.specs.Start.{callsOne}
 use Rattle.form_laws.specs.Good.{chunkNo}
 use Rattle.layout.specs.Indexed.{suspendsAt}
-use Rattle.layout.proofs.Kept.{Kept}
+use Rattle.layout.specs.Kept.{Kept}
 use Rattle.layout.specs.Layout.{headWords}
 
 abbrev pub suspendsIn : List ℕ → List ℕ → List Bool

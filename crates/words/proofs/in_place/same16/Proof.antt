@@ -9,10 +9,10 @@ use Rattle.words.proofs.in_place.same16.Reads as reads
 use Rattle.words.proofs.in_place.same16.Lts as lts
 
 abbrev Inv-loop : tie.InvT-loop
-Inv-loop ws a b k₀ same₀ k same = (same ≡ sameN ws a b k) × (k ≤ 16)
+Inv-loop ws a b k₀ same₀ k same = (same ≡ sameN ws a b k) × (k ≤ 15)
 
 abbrev μ-loop : tie.MeasureT-loop
-μ-loop ws a b k₀ same₀ k same = 16 - k
+μ-loop ws a b k₀ same₀ k same = 15 - k
 
 loop-holds : tie.Need-loop-holds Inv-loop μ-loop
 unfolding sameN
@@ -47,7 +47,7 @@ unfolding sameN
 loop-again c = (rw (add-one, c .before .before .before .loop .inv .0) refl, omega arith)
 
 returns : tie.Need-returns Inv-loop μ-loop
-returns c = let e : c .before .loop .k ≡ 16 = omega arith in rw (← e) (c .before .loop .inv .0)
+returns c = let e : c .before .loop .k ≡ 15 = omega arith in rw (← e) (c .before .loop .inv .0)
 
 pub same16-spec : {M : Type 1} → statement M
 same16-spec =

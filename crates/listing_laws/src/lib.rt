@@ -1,0 +1,1 @@
+// No code. How long the listing of an accepted call can be: see proofs/.

@@ -1,0 +1,3 @@
+pub mod Most
+pub mod Walk
+pub mod Sizes

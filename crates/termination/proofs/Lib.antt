@@ -1,0 +1,13 @@
+pub mod Totals
+pub mod Works
+pub mod Ends
+pub mod Small
+pub mod Drops
+pub mod Fades
+pub mod Fits
+pub mod Turned
+pub mod Late
+pub mod Bounds
+pub mod Theorem
+pub mod Settled
+pub mod Full

@@ -1,0 +1,4 @@
+pub mod Left
+pub mod Measure
+pub mod Enough
+pub mod Full
