@@ -2,12 +2,13 @@
  * nobody has written: workspace, report and index are malloc's. Nothing may depend on what such memory holds, and
  * valgrind complains where something does. Each is called with exactly the least workspace and with more. */
 #include "facts.h"
+#include "facts_report.h"
 
 #include <stdio.h>
 #include <stdlib.h>
 #include <string.h>
 
-enum { LARGEST = 1048576, LIST = 16 * LARGEST, REPORT = 1 << 16, LIMIT = 1000000, MORE = 1000 };
+enum { LIST = 16 * FACTS_MOST_BYTES, REPORT = 1 << 16, LIMIT = 1000000, MORE = 1000 };
 
 /* Where the numbers of an entry of the list stand, behind the description's length (oracle/src/replaylist.rs); then
  * come the description and the report. */
@@ -23,10 +24,6 @@ typedef struct {
 
 static unsigned long calls, descriptions;
 
-static unsigned u16_at(const uint8_t *at) { return at[0] | (unsigned)at[1] << 8; }
-
-static unsigned long u32_at(const uint8_t *at) { return u16_at(at) | (unsigned long)u16_at(at + 2) << 16; }
-
 static void fail(const char *what) {
     fprintf(stderr, "description %lu: %s\n", descriptions, what);
     exit(1);
@@ -41,21 +38,26 @@ static void *lend(size_t bytes) {
     return memory;
 }
 
+static void fail_at(const char *path) {
+    perror(path);
+    exit(2);
+}
+
 static uint8_t *read_file(const char *path, size_t most, size_t *length) {
     FILE *file = fopen(path, "rb");
-    if (file == NULL) {
-        perror(path);
-        exit(2);
-    }
+    if (file == NULL)
+        fail_at(path);
     uint8_t *bytes = lend(most);
     *length = fread(bytes, 1, most, file);
+    if (ferror(file))
+        fail_at(path);
     fclose(file);
     return bytes;
 }
 
-/* After 6 and all that comes later the workspace is zeros. */
+/* After all but 1 to 5 the workspace is zeros. */
 static void see_zeros(uint32_t number, const uint32_t *workspace, size_t words) {
-    if (number >= 1 && number <= 5)
+    if (number >= FACTS_BAD_FORM && number <= FACTS_WORKSPACE_TOO_SMALL)
         return;
     for (size_t at = 0; at < words; at++)
         if (workspace[at] != 0)
@@ -76,9 +78,11 @@ static void call_indexed(const Call *c, const uint32_t *expected, const uint8_t 
         fail("another answer with an index");
     if (memcmp(again, report, answer[FACTS_LENGTH]) != 0)
         fail("another report with an index");
-    if (number == 0 && facts_lookup_indexed(again, answer[FACTS_LENGTH], index, answer[FACTS_INDEX_LENGTH],
-                                            FACTS_NOWHERE, FACTS_NOWHERE, part) != 0)
+    if (number == FACTS_ACCEPTED && facts_lookup_indexed(again, answer[FACTS_LENGTH], index, answer[FACTS_INDEX_LENGTH],
+                                                         FACTS_NOWHERE, FACTS_NOWHERE, part) != 0)
         fail("an index that is not the report's");
+    if (number == FACTS_ACCEPTED && !facts_well_formed(again, answer[FACTS_LENGTH]))
+        fail("a report that can't be read");
     free(workspace);
     free(again);
     free(index);
@@ -111,21 +115,31 @@ static void call_twice(const uint8_t *bytes, size_t length) {
     uint8_t *first = call(&c, small);
     c.words += MORE;
     uint8_t *second = call(&c, large);
-    if (small[FACTS_NUMBER] == 0 &&
+    if (small[FACTS_NUMBER] == FACTS_ACCEPTED &&
         (memcmp(small, large, sizeof small) != 0 || memcmp(first, second, small[FACTS_LENGTH]) != 0))
         fail("another report with more words");
     free(first);
     free(second);
 }
 
+/* The length of an entry of the list; it must not be longer than what is left of the list. */
+static size_t entry_length(const uint8_t *entry, size_t left) {
+    if (left < HEAD)
+        fail("a list that ends inside an entry");
+    size_t length = HEAD + (size_t)facts_u32(entry) + facts_u32(entry + LENGTH);
+    if (left < length)
+        fail("a list that ends inside an entry");
+    return length;
+}
+
 /* An entry of the list: twice, and within its own bounds, answered as it says. Returns its length. */
-static size_t call_entry(const uint8_t *entry) {
-    size_t length = u32_at(entry), report_length = u32_at(entry + LENGTH);
+static size_t call_entry(const uint8_t *entry, size_t left) {
+    size_t whole = entry_length(entry, left), length = facts_u32(entry), report_length = facts_u32(entry + LENGTH);
     const uint8_t *bytes = entry + HEAD;
-    const uint32_t expected[FACTS_ANSWER] = {entry[NUMBER], u16_at(entry + CHUNK), u16_at(entry + INSTRUCTION),
-                                             u32_at(entry + STEPS), report_length};
+    const uint32_t expected[FACTS_ANSWER] = {entry[NUMBER], facts_u16(entry + CHUNK), facts_u16(entry + INSTRUCTION),
+                                             facts_u32(entry + STEPS), (uint32_t)report_length};
     uint32_t answer[FACTS_ANSWER];
-    Call c = {bytes, length, u32_at(entry + WORDS), u32_at(entry + BUFFER), u32_at(entry + ALLOWED)};
+    Call c = {bytes, length, facts_u32(entry + WORDS), facts_u32(entry + BUFFER), facts_u32(entry + ALLOWED)};
     call_twice(bytes, length);
     uint8_t *report = call(&c, answer);
     if (memcmp(answer, expected, sizeof answer) != 0)
@@ -133,7 +147,7 @@ static size_t call_entry(const uint8_t *entry) {
     if (memcmp(report, bytes + length, report_length) != 0)
         fail("not the report of the list");
     free(report);
-    return HEAD + length + report_length;
+    return whole;
 }
 
 int main(int count, char **args) {
@@ -144,10 +158,10 @@ int main(int count, char **args) {
     size_t length;
     uint8_t *list = read_file(args[1], LIST, &length);
     for (size_t at = 0; at < length;)
-        at += call_entry(list + at);
+        at += call_entry(list + at, length - at);
     free(list);
     for (int k = 2; k < count; k++) {
-        uint8_t *bytes = read_file(args[k], LARGEST + 1, &length);
+        uint8_t *bytes = read_file(args[k], FACTS_MOST_BYTES + 1, &length);
         call_twice(bytes, length);
         free(bytes);
     }

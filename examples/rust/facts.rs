@@ -1,63 +1,68 @@
-//! `facts FILE`: the facts of a description, the record of one instruction,
-//! also through an index, and two refusals. All memory is the program's own.
+//! `facts FILE`: the facts of a description, the record of one instruction, also through an index, and two refusals.
+//! All memory is the program's own. Ends with 0 where the description is accepted, 1 where it is refused, 2 where the
+//! file can't be read.
 
+use genduvo::report::{Cell, Field, Record, Report, Signature, Width};
 use genduvo::{Index, Refusal};
-use std::process::exit;
+use std::error::Error;
+use std::process::ExitCode;
 
 const LIMIT: u32 = 1_000_000;
-const CELL: usize = 49;
+/// Room for some more entries in the queue than the least.
+const MORE_WORDS: usize = 1000;
 
-fn u16_at(bytes: &[u8], at: usize) -> usize {
-    usize::from(u16::from_le_bytes([bytes[at], bytes[at + 1]]))
-}
-
-/// The masks of some cells, one behind another.
-fn masks(cells: &[u8]) -> String {
-    let masks: Vec<String> = cells.chunks(CELL).map(|cell| u16_at(cell, 0).to_string()).collect();
-    if masks.is_empty() { "-".into() } else { masks.join(" ") }
-}
-
-fn print_field(tag: u8, field: &[u8]) {
-    match tag {
-        16 => println!("reply maximum {}", u16_at(field, 0) | u16_at(field, 2) << 16),
-        19 => {
-            let (stack, locals) = (u16_at(field, 4) * CELL, u16_at(field, 6) * CELL);
-            let cells = &field[12..];
-            let (stack, locals) = (&cells[..stack], &cells[stack..stack + locals]);
-            println!("{} {} stack {} locals {}", u16_at(field, 0), u16_at(field, 2), masks(stack), masks(locals));
-        }
-        20 => println!("inspection {} {}", u16_at(field, 0), u16_at(field, 2)),
-        21 => println!("branch {} {} {}", u16_at(field, 0), u16_at(field, 2), field[4]),
-        _ => {}
+/// A cell in words: its kinds and, where it is known, how many bytes it has.
+fn cell(cell: Cell) -> String {
+    match cell.width {
+        Width::Unknown => cell.mask.to_string(),
+        Width::Scalar(size) | Width::Body(size) => format!("{}:{size}", cell.mask),
     }
 }
 
-fn print_report(report: &[u8]) {
-    let mut rest = report;
-    while !rest.is_empty() {
-        let end = 3 + u16_at(rest, 1);
-        print_field(rest[0], &rest[3..end]);
-        rest = &rest[end..];
+fn cells(cells: impl IntoIterator<Item = Cell>) -> String {
+    let words: Vec<String> = cells.into_iter().map(cell).collect();
+    if words.is_empty() { "-".into() } else { words.join(" ") }
+}
+
+fn print_signature(signature: Signature) {
+    let (inputs, result) = (cells(signature.inputs()), cell(signature.result()));
+    println!("chunk {} inputs {inputs} result {result}", signature.chunk());
+}
+
+fn print_record(record: Record) {
+    let (stack, locals) = (cells(record.stack()), cells(record.locals()));
+    let gives = cells(record.outputs().iter().map(|output| output.cell));
+    let tests =
+        record.guards().iter().map(|guard| format!(", test that stack place {} is {}", guard.place, guard.mask));
+    let tests: String = tests.collect();
+    println!("{} {} stack {stack} locals {locals} gives {gives}{tests}", record.chunk(), record.instruction());
+}
+
+fn print_field(field: Field) {
+    match field {
+        Field::Reply(most) => println!("reply maximum {most}"),
+        Field::Signature(signature) => print_signature(signature),
+        Field::Slot(slot) => println!("slot {}", cell(slot)),
+        Field::Record(record) => print_record(record),
+        Field::Inspection(one) => println!("{} {} never finds what it looks for", one.chunk, one.instruction),
+        Field::Branch(one) => println!("{} {} is always {}", one.chunk, one.instruction, one.value),
     }
 }
 
-fn print_record(report: &[u8], chunk: u16, instruction: u16) {
-    let part = genduvo::lookup(report, chunk, instruction);
-    if part.is_empty() {
-        println!("record of {chunk} {instruction}: none");
-    } else {
-        let first = part.as_ptr() as usize - report.as_ptr() as usize;
-        println!("record of {chunk} {instruction}: {} bytes from byte {first}", part.len());
+/// Which bytes of the report a record has.
+fn bytes_of(report: &[u8], record: Option<&[u8]>) -> String {
+    match record {
+        Some(part) => format!("{} bytes from byte {}", part.len(), part.as_ptr() as usize - report.as_ptr() as usize),
+        None => "none".into(),
     }
 }
 
-fn print_sought(through: &str, index: Index, report: &[u8], chunk: u16, instruction: u16) {
-    let sought = match index.lookup(report, chunk, instruction) {
-        Ok([]) => "none".into(),
-        Ok(part) => format!("{} bytes from byte {}", part.len(), part.as_ptr() as usize - report.as_ptr() as usize),
+fn print_sought(through: &str, index: Index, report: &[u8], instruction: u16) {
+    let sought = match index.lookup(report, 0, instruction) {
+        Ok(record) => bytes_of(report, record),
         Err(reason) => format!("refused {reason}"),
     };
-    println!("through {through}, record of {chunk} {instruction}: {sought}");
+    println!("through {through}, record of 0 {instruction}: {sought}");
 }
 
 /// Analyses the description once more, with an index, and looks records up through it. An index has fewer bytes than
@@ -70,52 +75,54 @@ fn print_indexed(description: &[u8], workspace: &mut [u32], report: &mut [u8]) -
     for entry in Index::new(bytes).entries() {
         println!("entry {} {}: {} bytes from byte {}", entry.chunk, entry.instruction, entry.length, entry.first);
     }
-    print_sought("the index", Index::new(bytes), report, 0, 2);
-    print_sought("the index", Index::new(bytes), report, 0, 9);
+    print_sought("the index", Index::new(bytes), report, 2);
+    print_sought("the index", Index::new(bytes), report, 9);
     // An index that isn't the report's own is refused for every record: its first entry names another byte.
     bytes[4] ^= 1;
-    print_sought("a damaged index", Index::new(bytes), report, 0, 2);
+    print_sought("a damaged index", Index::new(bytes), report, 2);
     Ok(())
 }
 
-fn main() -> Result<(), Box<dyn std::error::Error>> {
-    let Some(path) = std::env::args().nth(1) else {
-        eprintln!("facts FILE");
-        exit(2);
-    };
-    let description = std::fs::read(path)?;
-    let sizes = match genduvo::sizes(&description) {
-        Ok(sizes) => sizes,
-        Err(reason) => {
-            println!("no good form: {reason}");
-            exit(1);
-        }
-    };
-    println!(
-        "{} bytes, least workspace {} words, at most {} bytes of report",
-        description.len(),
-        sizes.words,
-        sizes.report
-    );
-    // Room for some more entries in the queue than the least; no report of this description is longer.
-    let mut workspace = vec![0; sizes.words + 1000];
-    let mut report = vec![0; sizes.report];
-    let accepted = match genduvo::check(&description, &mut workspace, &mut report, LIMIT) {
-        Ok(accepted) => accepted,
-        Err(refusal) => {
-            println!("{refusal}");
-            exit(1);
-        }
-    };
+/// All of it; a refusal is an error.
+fn print_facts(description: &[u8]) -> Result<(), Box<dyn Error>> {
+    let sizes = genduvo::sizes(description)?;
+    let (words, most) = (sizes.words, sizes.report);
+    println!("{} bytes, least workspace {words} words, at most {most} bytes of report", description.len());
+    // No report of this description is longer.
+    let (mut workspace, mut bytes) = (vec![0; words + MORE_WORDS], vec![0; most]);
+    let accepted = genduvo::check(description, &mut workspace, &mut bytes, LIMIT)?;
     println!("accepted, {} steps, report of {} bytes", accepted.steps, accepted.length);
-    print_report(&report[..accepted.length]);
-    print_record(&report[..accepted.length], 0, 2);
-    print_record(&report[..accepted.length], 0, 9);
-    print_indexed(&description, &mut workspace, &mut report)?;
-
+    let report = Report::read(&bytes[..accepted.length])?;
+    report.fields().for_each(print_field);
+    for instruction in [2, 9] {
+        let record = genduvo::lookup(report.bytes(), 0, instruction);
+        println!("record of 0 {instruction}: {}", bytes_of(report.bytes(), record));
+    }
+    print_indexed(description, &mut workspace, &mut bytes)?;
     // One step too few is refused.
-    if let Err(refusal) = genduvo::check(&description, &mut workspace, &mut report, accepted.steps - 1) {
+    if let Err(refusal) = genduvo::check(description, &mut workspace, &mut bytes, accepted.steps - 1) {
         println!("{refusal}");
     }
     Ok(())
+}
+
+fn main() -> ExitCode {
+    let Some(path) = std::env::args().nth(1) else {
+        eprintln!("facts FILE");
+        return ExitCode::from(2);
+    };
+    let description = match std::fs::read(&path) {
+        Ok(description) => description,
+        Err(error) => {
+            eprintln!("{path}: {error}");
+            return ExitCode::from(2);
+        }
+    };
+    match print_facts(&description) {
+        Ok(()) => ExitCode::SUCCESS,
+        Err(refusal) => {
+            println!("{refusal}");
+            ExitCode::from(1)
+        }
+    }
 }

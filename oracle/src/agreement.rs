@@ -3,11 +3,11 @@
 
 use crate::indexed::{in_order, odd_index, sought_differs};
 use crate::trial::{odd_report, pair};
+use oracle::description::text_to_bytes;
 use oracle::generate::random::Random;
 use oracle::generate::{generate, seed_of};
 use oracle::index::{ENTRY, agrees, entries};
 use oracle::run::{Outcome, check};
-use oracle::text;
 
 const WORKED: &str = include_str!("../examples/worked.txt");
 /// How many generated reports have each of their bits turned, and how long one
@@ -102,7 +102,7 @@ fn by_hand() -> Vec<Vec<u8>> {
 }
 
 fn worked() -> Vec<u8> {
-    let bytes = text::parse_bytes(WORKED).expect("the example parses");
+    let bytes = text_to_bytes(WORKED).expect("the example parses");
     match check(&bytes, 16384, 16384, 1_000_000) {
         Outcome::Accepted { report, .. } => report,
         Outcome::Refused(_) => panic!("the worked example is accepted"),

@@ -23,13 +23,13 @@ mod shrink;
 mod trial;
 
 use indexed::{index_differs, lookup_indexed_differs};
+use oracle::description::bytes_to_text;
 use oracle::generate::coverage::Coverage;
 use oracle::generate::random::Random;
 use oracle::generate::{Generated, made_for, outcome, seed_of};
 use oracle::judged::{Text, text_of};
 use oracle::model::Description;
 use oracle::run::{self, Outcome};
-use oracle::text;
 use std::process::exit;
 use std::sync::Mutex;
 use std::sync::atomic::{AtomicU64, Ordering};
@@ -246,10 +246,10 @@ fn show(shared: &Shared, seed: u64, one: &Generated, expected: &Outcome, answer:
             println!("smaller, within ample bounds:");
             println!("oracle: {}", shown(&expected));
             println!("port:   {answer}");
-            print!("{}", text::print(&small));
+            print!("{}", bytes_to_text(&small.encode()));
         }
         _ => {
-            let whole = text::print_bytes(&one.bytes);
+            let whole = bytes_to_text(&one.bytes);
             let lines: Vec<&str> = whole.lines().take(400).collect();
             println!("{}", lines.join("\n"));
         }

@@ -132,11 +132,11 @@ fn chunk(contents: &[u8], seen: &mut Seen, faults: &mut Faults) -> Option<()> {
     let param_count = take.u8()?;
     let tags = take.u8()?;
     seen.locals = locals;
-    faults.note(1, reachable > 1 || usize::from(block) >= ops::BLOCKS.len());
+    faults.note(1, reachable > 1 || block >= ops::BLOCKS);
     faults.note(2, locals > 256 || deepest > 64 || param_count > 16 || tags > 16);
     for _ in 0..tags {
         let place = take.u8()?;
-        faults.note(1, usize::from(place) >= ops::TYPE_TAGS.len());
+        faults.note(1, place >= ops::TYPE_TAGS);
     }
     if number < seen.signatures {
         let params = take.u8()?;
@@ -163,7 +163,7 @@ fn instruction(contents: &[u8], seen: &mut Seen, faults: &mut Faults) -> Option<
     let mut take = Take(contents);
     let (op, taken, given) = (take.u8()?, take.u8()?, take.u8()?);
     let (a, b, c) = (take.u32()?, take.u32()?, take.u32()?);
-    if usize::from(op) >= ops::NAMES.len() {
+    if op >= ops::INSTRUCTIONS {
         faults.note(1, true);
         return None;
     }
@@ -174,7 +174,7 @@ fn instruction(contents: &[u8], seen: &mut Seen, faults: &mut Faults) -> Option<
     match ops::operands(op) {
         Operands::None => faults.note(1, a != 0 || b != 0 || c != 0),
         Operands::Constant => {
-            faults.note(1, a as usize >= ops::CONSTANTS.len());
+            faults.note(1, a >= u32::from(ops::CONSTANTS));
             faults.note(1, b > u32::from(a == 1));
         }
         Operands::Local => {
@@ -248,7 +248,7 @@ fn other(tag: u8, contents: &[u8], seen: &mut Seen, faults: &mut Faults) -> Opti
         }
         _ => {
             let (place, value) = (take.u8()?, take.u8()?);
-            faults.note(1, usize::from(place) >= ops::CONSTANTS.len() || value > 1);
+            faults.note(1, place >= ops::CONSTANTS || value > 1);
         }
     }
     take.0.is_empty().then_some(())

@@ -42,6 +42,12 @@ mod probe;
 #[path = "probed.rs"]
 mod probed;
 
+// The names and the text form of bindings/rust, without the library that it links.
+#[path = "../../bindings/rust/src/description/mod.rs"]
+pub mod description;
+#[path = "../../bindings/rust/src/mask.rs"]
+pub mod mask;
+
 pub mod form;
 pub mod generate;
 pub mod index;
@@ -55,7 +61,6 @@ pub mod ops;
 pub mod pool;
 pub mod report;
 pub mod run;
-pub mod text;
 pub mod timing;
 
 #[derive(Debug, Clone, Copy, PartialEq, Eq)]

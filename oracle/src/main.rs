@@ -1,9 +1,9 @@
 //! The command line program `oracle`.
 
+use oracle::description::{bytes_to_text, text_to_bytes};
 use oracle::judged::{Text, judged};
 use oracle::listing::listing;
 use oracle::run::{self, Outcome};
-use oracle::text;
 use std::io::Write;
 use std::process::exit;
 
@@ -29,7 +29,7 @@ fn read(path: &str) -> Vec<u8> {
         return bytes;
     }
     let text = String::from_utf8(bytes).unwrap_or_else(|_| stop(&format!("{path}: not a text")));
-    text::parse_bytes(&text).unwrap_or_else(|error| stop(&format!("{path}: {error}")))
+    text_to_bytes(&text).unwrap_or_else(|error| stop(&format!("{path}: {error}")))
 }
 
 fn number<T: std::str::FromStr>(text: Option<&String>, otherwise: T) -> T {
@@ -43,7 +43,7 @@ fn main() {
     let args: Vec<String> = std::env::args().skip(1).collect();
     match args.iter().map(String::as_str).collect::<Vec<_>>()[..] {
         ["bytes", path] => std::io::stdout().write_all(&read(path)).expect("output"),
-        ["text", path] => print!("{}", text::print_bytes(&read(path))),
+        ["text", path] => print!("{}", bytes_to_text(&read(path))),
         ["check", path, ..] if args.len() <= 5 => {
             let words = number(args.get(2), 16384);
             let report_len = number(args.get(3), 16384);
@@ -69,7 +69,7 @@ fn generate(args: &[String]) {
     let (text, [seed]) = Text::asked(args) else { stop(USAGE) };
     let (one, _) = oracle::generate::made_for(number(Some(seed), 0), text);
     println!("# words {} report {} limit {}", one.words, one.report_len, one.limit);
-    print!("{}", text::print_bytes(&one.bytes));
+    print!("{}", bytes_to_text(&one.bytes));
 }
 
 /// Numbers as a list of antt.

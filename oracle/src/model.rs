@@ -1,6 +1,8 @@
 //! A description as data, and its bytes. Any value may stand in a field, also
 //! one that the form refuses; only the order and the lengths are kept.
 
+use crate::description::text_to_bytes;
+
 #[derive(Debug, Clone, Copy, PartialEq, Eq, Default)]
 pub struct Shape {
     /// 0 `Top`, 1 `Scalar`, 2 `Flat`.
@@ -199,6 +201,12 @@ impl Description {
             field(&mut out, 8, |out| out.extend([initializer.place, initializer.value]));
         }
         out
+    }
+
+    /// What a text says (bindings/rust, module `description`).
+    pub fn from_text(text: &str) -> Result<Description, String> {
+        let bytes = text_to_bytes(text).map_err(|error| error.to_string())?;
+        Description::decode(&bytes).ok_or("signatures that don't fit the chunks".into())
     }
 
     /// None where order or lengths are not those of a description. Whatever

@@ -1,28 +1,20 @@
-//! The instructions by place: names, what their operands mean, what they must
-//! take and give.
+//! The instructions by place: what their operands mean, what they must take and
+//! give. Their names are those of bindings/rust (`description::Op`).
 
-pub const NAMES: [&str; 66] = [
-    "Const", "GetLocal", "SetLocal", "GetData", "SetData", "GetDataIndexed", "SetDataIndexed",
-    "BoundsCheck", "Add", "Sub", "Mul", "Div", "Mod", "Neg", "CmpEq", "CmpNe", "CmpLt", "CmpGt",
-    "CmpLe", "CmpGe", "Not", "If", "Else", "EndIf", "Loop", "EndLoop", "Break", "BreakIf",
-    "Stream", "Reset", "Call", "Return", "Yield", "Dup", "NewComposite", "GetField", "GetIndex",
-    "GetTupleField", "GetEnumField", "Len", "IsEnum", "IsStruct", "IntToFloat", "FloatToInt",
-    "WordToByte", "ByteToWord", "WordToFixed", "FixedToWord", "FixedMul", "FixedDiv", "Trap",
-    "CheckedAdd", "CheckedSub", "CheckedMul", "CheckedNeg", "CheckedDiv", "CheckedMod",
-    "PushImmediate", "PopN", "BitAnd", "BitOr", "BitXor", "Shl", "Shr", "CallVerifiedNative",
-    "CallExternalNative",
-];
-
-pub const CONSTANTS: [&str; 12] = [
-    "Unit", "Bool", "Int", "Byte", "Fixed", "Float", "StaticStr", "Tuple", "Array", "Struct",
-    "Enum", "None",
-];
-pub const BLOCKS: [&str; 3] = ["Func", "Reentrant", "Stream"];
-pub const TYPE_TAGS: [&str; 8] =
-    ["Composite", "Byte", "Word", "Fixed", "Float", "Bool", "Unit", "Text"];
+/// How many places have a meaning: of instructions, constants, block types and
+/// type tags.
+pub const INSTRUCTIONS: u8 = 66;
+pub const CONSTANTS: u8 = 12;
+pub const BLOCKS: u8 = 3;
+pub const TYPE_TAGS: u8 = 8;
 
 macro_rules! places {
-    ($($name:ident = $place:expr;)*) => { $(pub const $name: u8 = $place;)* };
+    ($($name:ident = $place:expr;)*) => {
+        $(pub const $name: u8 = $place;)*
+
+        /// All of them, each with what it is called here.
+        pub const PLACES: &[(&str, u8)] = &[$((stringify!($name), $place)),*];
+    };
 }
 places! {
     CONST = 0; GET_LOCAL = 1; SET_LOCAL = 2; GET_DATA = 3; SET_DATA = 4; GET_DATA_INDEXED = 5;

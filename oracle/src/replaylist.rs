@@ -13,14 +13,15 @@
 //! Workspace, buffer and limit are the generator's. What types.rs does not judge
 //! is left out.
 
+use oracle::description::text_to_bytes;
 use oracle::generate::coverage::Coverage;
 use oracle::generate::{Generated, outcome, seed_of, with_measure};
 use oracle::judged::judged;
 use oracle::model::{Description, Instruction, put16, put32};
-use oracle::ops::NAMES;
+use oracle::ops;
 use oracle::run::{self, NONE, Outcome};
-use oracle::text;
 use std::io::Write;
+use std::path::Path;
 
 #[global_allocator]
 static POOL: oracle::pool::Pool = oracle::pool::Pool;
@@ -101,22 +102,25 @@ impl List {
 fn examples() -> Vec<Vec<u8>> {
     let mut paths: Vec<_> = std::fs::read_dir("examples").expect("examples").map(|entry| entry.expect("entry").path()).collect();
     paths.sort();
-    let text = |path| std::fs::read_to_string(path).expect("a text");
-    paths.iter().map(|path| text::parse_bytes(&text(path)).expect("a description")).collect()
+    paths.iter().map(|path| example(path)).collect()
+}
+
+/// The bytes of an example.
+fn example(path: &Path) -> Vec<u8> {
+    text_to_bytes(&std::fs::read_to_string(path).expect("a text")).expect("a description")
 }
 
 /// A description with an instruction more at the end of its first chunk.
 fn with_len(bytes: &[u8]) -> Vec<u8> {
     let mut d = Description::decode(bytes).expect("good form");
-    let place = NAMES.iter().position(|name| *name == "Len").expect("Len");
-    d.chunks[0].code.push(Instruction::new(place as u8, 1, 1, 0, 0, 0));
+    d.chunks[0].code.push(Instruction::new(ops::LEN, 1, 1, 0, 0, 0));
     d.encode()
 }
 
 fn main() {
     let mut list = List::default();
     let mut first = examples();
-    first.push(with_len(&text::parse_bytes(&std::fs::read_to_string("examples/worked.txt").expect("a text")).expect("a description")));
+    first.push(with_len(&example(Path::new("examples/worked.txt"))));
     for bytes in first {
         let one = Generated { bytes, words: WORDS, report_len: REPORT, limit: 1_000_000 };
         let outcome = run::check(&one.bytes, one.words, one.report_len, one.limit);

@@ -1,14 +1,14 @@
 //! Refusals 1 to 4, and every largest value with one past it.
 
+use oracle::description::Op;
 use oracle::form;
 use oracle::model::*;
 use oracle::ops;
-use oracle::text;
 
 const NO: u16 = 65535;
 
 fn base() -> Description {
-    text::parse(
+    Description::from_text(
         "header float=6 layout=1 slots=3
          chunk block=Stream L=4 D=8 params=1 tags=Word shapes=Scalar:3:s8 returns=Top:0:?
            PushImmediate 4 : 0 1
@@ -327,7 +327,7 @@ fn operands() {
             }
             form(&d.encode()).0
         };
-        let table: &[((u32, u32, u32), u8)] = match ops::NAMES[usize::from(op)] {
+        let table: &[((u32, u32, u32), u8)] = match Op::NAMES[usize::from(op)] {
             "Const" => &[
                 ((0, 0, all), 0), ((11, 0, 0), 0), ((12, 0, 0), 1), ((1, 1, 0), 0), ((1, 2, 0), 1),
                 ((2, 1, 0), 1), ((all, 0, 0), 1),
@@ -363,7 +363,7 @@ fn operands() {
             ],
         };
         for ((a, b, c), number) in table {
-            let name = ops::NAMES[usize::from(op)];
+            let name = Op::NAMES[usize::from(op)];
             assert_eq!(form_of(*a, *b, *c), *number, "{name} {a} {b} {c}");
         }
     }
@@ -389,7 +389,7 @@ fn taken_and_given() {
     let convert = "IntToFloat FloatToInt WordToByte ByteToWord WordToFixed FixedToWord";
     let reads = "GetField GetTupleField GetEnumField";
     for op in 0..66u8 {
-        let name = ops::NAMES[usize::from(op)];
+        let name = Op::NAMES[usize::from(op)];
         let least = if is(name, compare) || is(name, "Shl Shr GetIndex") {
             2
         } else if is(name, "If BreakIf IsEnum IsStruct SetLocal Dup Yield Not FixedMul FixedDiv")

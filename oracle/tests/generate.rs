@@ -1,11 +1,11 @@
 //! What the generator makes: the same for a seed, all outcomes, all
 //! instructions, and bounds that fit exactly or fall short by one.
 
+use oracle::description::Op;
 use oracle::generate::coverage::over;
 use oracle::generate::{generate, made_for, outcome, seed_of, with_measure};
 use oracle::judged::{Text, judged, next_branches, text_of};
 use oracle::model::Description;
-use oracle::ops;
 use oracle::run::{Outcome, check, check_by};
 
 #[test]
@@ -28,7 +28,7 @@ fn every_outcome_and_every_instruction_is_reached() {
     }
     assert!(coverage.outcomes[0] > 5_000, "{:?}", coverage.outcomes);
     for op in 0..66 {
-        let name = ops::NAMES[op];
+        let name = Op::NAMES[op];
         assert!(coverage.present[op] > 100, "{name}");
         // Len has no rule: it is never recorded in what is accepted.
         assert_eq!(coverage.recorded[op] > 0, name != "Len", "{name}");
@@ -69,7 +69,7 @@ fn what_is_made_for_a_copy_makes_a_difference() {
 /// whose chunk it is in.
 fn surroundings(d: &Description, (chunk, at): (usize, usize)) -> [String; 3] {
     let code = &d.chunks[chunk].code;
-    let name = |at: usize| code.get(at).map_or("none", |i| ops::NAMES.get(usize::from(i.op)).unwrap_or(&"?"));
+    let name = |at: usize| code.get(at).map_or("none", |i| Op::NAMES.get(usize::from(i.op)).unwrap_or(&"?"));
     let whose = if chunk == usize::from(d.header.entry) { "the entry" } else { "a callee" };
     let test = name(at);
     let before = at.checked_sub(1).map_or("none", name);

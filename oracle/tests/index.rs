@@ -2,14 +2,14 @@
 
 use oracle::index::{ENTRY, Entry, agrees, bytes, entries, lookup_indexed, read};
 use oracle::lookup::lookup;
+use oracle::model::Description;
 use oracle::run::{Outcome, check};
-use oracle::text;
 
 /// The report of an example.
 fn report_of(name: &str) -> Vec<u8> {
     let folder = std::env::var("ORACLE_DIR").expect("ORACLE_DIR");
     let path = format!("{folder}/examples/{name}.txt");
-    let d = text::parse(&std::fs::read_to_string(&path).expect(&path)).expect("the example parses");
+    let d = Description::from_text(&std::fs::read_to_string(&path).expect(&path)).expect("the example parses");
     let Outcome::Accepted { report, .. } = check(&d.encode(), 16384, 16384, 1_000_000) else { panic!("accepted") };
     report
 }

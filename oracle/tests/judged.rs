@@ -1,11 +1,10 @@
 //! Which descriptions are held against types.rs, and how the rest is counted.
 
+use oracle::description::Op;
 use oracle::generate::coverage::{Coverage, over};
 use oracle::generate::{generate, seed_of};
 use oracle::judged::{Text, judged, next_branches, text_of};
 use oracle::model::{Description, Instruction};
-use oracle::ops::NAMES;
-use oracle::text;
 
 #[test]
 fn every_example_but_those_of_a_copy_is_judged() {
@@ -13,7 +12,7 @@ fn every_example_but_those_of_a_copy_is_judged() {
     let (mut seen, mut left_out) = (0, Vec::new());
     for file in std::fs::read_dir(format!("{folder}/examples")).expect("examples") {
         let path = file.expect("a file").path();
-        let d = text::parse(&std::fs::read_to_string(&path).expect("text")).expect("parses");
+        let d = Description::from_text(&std::fs::read_to_string(&path).expect("text")).expect("parses");
         let name = path.file_stem().expect("a name").to_string_lossy().into_owned();
         let next_branch = name.starts_with("next-");
         assert_eq!(text_of(&d), Text { handle_4: d.header.handle == 4, next_branch }, "{name}");
@@ -31,7 +30,7 @@ fn every_example_but_those_of_a_copy_is_judged() {
 fn example(name: &str) -> Description {
     let folder = std::env::var("ORACLE_DIR").expect("ORACLE_DIR");
     let path = format!("{folder}/examples/{name}.txt");
-    text::parse(&std::fs::read_to_string(&path).expect(&path)).expect("parses")
+    Description::from_text(&std::fs::read_to_string(&path).expect(&path)).expect("parses")
 }
 
 /// Handles of other sizes are refused before types.rs is asked.
@@ -64,7 +63,7 @@ fn left_out_targets(op: u8, (chunk, reachable, at): (usize, u8, usize)) -> Vec<u
 #[test]
 fn tests_to_the_very_next_instruction_alone_are_left_out() {
     let places = [(0, 1, 0), (0, 1, 1), (0, 1, 2), (1, 1, 0), (1, 1, 3), (1, 0, 0), (1, 0, 2), (1, 0, 3)];
-    for (op, name) in NAMES.iter().enumerate() {
+    for (op, name) in Op::NAMES.iter().enumerate() {
         for place in places {
             let next = if ["If", "BreakIf"].contains(name) { vec![place.2 as u32 + 1] } else { vec![] };
             assert_eq!(left_out_targets(op as u8, place), next, "{name} {place:?}");

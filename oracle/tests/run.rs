@@ -4,14 +4,13 @@
 use oracle::judged::{Text, text_of};
 use oracle::model::*;
 use oracle::run::{Outcome, Refusal, check, check_by, measure, not_proven_at};
-use oracle::text;
 
 const NO: u16 = 65535;
 
 fn example(name: &str) -> Description {
     let folder = std::env::var("ORACLE_DIR").expect("ORACLE_DIR");
     let path = format!("{folder}/examples/{name}.txt");
-    text::parse(&std::fs::read_to_string(&path).expect(&path)).expect("the example parses")
+    Description::from_text(&std::fs::read_to_string(&path).expect(&path)).expect("the example parses")
 }
 fn ample(d: &Description) -> Outcome {
     check(&d.encode(), 16384, 16384, 1_000_000)
@@ -20,7 +19,7 @@ fn refused(number: u8, chunk: u16, instruction: u16, steps: u32) -> Outcome {
     Outcome::Refused(Refusal { number, chunk, instruction, steps })
 }
 fn parsed(text: &str) -> Description {
-    text::parse(text).expect("the text parses")
+    Description::from_text(text).expect("the text parses")
 }
 fn listing(name: &str) -> String {
     let folder = std::env::var("ORACLE_DIR").expect("ORACLE_DIR");

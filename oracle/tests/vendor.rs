@@ -107,5 +107,5 @@ fn every_instruction_has_the_place_that_the_names_give_it() {
         .map(|line| line.trim().trim_end_matches(',').split('(').next().unwrap())
         .filter(|name| !name.is_empty())
         .collect();
-    assert_eq!(names, oracle::ops::NAMES);
+    assert_eq!(names, oracle::description::Op::NAMES);
 }

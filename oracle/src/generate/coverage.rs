@@ -1,7 +1,7 @@
 //! What generated descriptions reach: instructions and outcomes, counted.
 
+use crate::description::Op;
 use crate::model::{Description, at16, split_field};
-use crate::ops::NAMES;
 use crate::report::GUARDS_AT;
 use crate::run::Outcome;
 
@@ -111,7 +111,7 @@ impl Coverage {
         for op in 0..66 {
             let (present, accepted, recorded) = (self.present[op], self.accepted[op], self.recorded[op]);
             let (guarded, ordered) = (self.guarded[op], self.ordered[op]);
-            out += &format!("| {} | {present} | {accepted} | {recorded} | {guarded} | {ordered} |\n", NAMES[op]);
+            out += &format!("| {} | {present} | {accepted} | {recorded} | {guarded} | {ordered} |\n", Op::NAMES[op]);
         }
         out
     }
