@@ -10,12 +10,12 @@ use Rattle.definition.specs.declared.Form.{Form}
 use Rattle.definition.specs.declared.Form.the-variants.{Fine, Refused}
 use Rattle.definition.specs.Machine.{Ran, accepted, refused, Final}
 use Rattle.definition.specs.Module.{Module, moduleOf}
-use Rattle.definition.specs.State.{State, Facts, join}
-use Rattle.definition.specs.Leaves.{Known, leaves, absorb, opened, closed, moved}
+use Rattle.definition.specs.State.{State, Facts}
+use Rattle.definition.specs.Leaves.{Known}
 use Rattle.definition.specs.Form.{formOf}
-use Rattle.definition.specs.Start.{admitted, firstFacts, overfull, replyMaximum, knownOf, start, afterChunk}
+use Rattle.definition.specs.Start.{admitted, firstFacts, overfull, replyMaximum, knownOf}
 use Rattle.definition.specs.Report.{Report, reportOf}
-use Rattle.definition.specs.Call.{runOf, reported, turned, onRan, admittedRun, onReply, known, onAdmitted, decided, onForm, decide}
+use Rattle.definition.specs.Call.{analysisOf, runOf, reported, turned, onRan, admittedRun, onReply, known, onAdmitted, decided, onForm, decide}
 use Rattle.machine_laws.proofs.Limits.{accepted-same}
 use Rattle.masks.proofs.Both.{never}
 use Rattle.machine_laws.proofs.Bind.{some-inj}
@@ -80,9 +80,7 @@ same-made : (m : Module) (cap cap′ limit limit′ : ℕ) (r r′ : Report) (n 
 unfolding runOf
 same-made m cap cap′ limit limit′ r r′ n n′ w w′ =
     let k = knownOf m (firstFacts m) in
-    let (ex, en) =
-    accepted-same join cap cap′ (k .code .chunks) (λ c. c .reachable) start afterChunk opened (λ x. x .known) (absorb (k .code)) moved closed (leaves k)
-    limit limit′ (firstFacts m) (w .final) (w′ .final) n n′ (w .ran) (w′ .ran) in
+    let (ex, en) = accepted-same (analysisOf k cap) cap′ limit limit′ (firstFacts m) (w .final) (w′ .final) n n′ (w .ran) (w′ .ran) in
     let ey : w .reply ≡ w′ .reply = some-inj (sym (w .bound) ∙ w′ .bound) in
     (sym (w .says) ∙ ap₂ (reportOf k) ey ex ∙ w′ .says, en)
 

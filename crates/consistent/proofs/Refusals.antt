@@ -11,16 +11,16 @@ use Rattle.definition.specs.Res.{bad}
 use Rattle.definition.specs.Machine.{Work, Where, due, done, stop, refused, halt, put, finish, next, begun}
 use Rattle.definition.specs.Module.{Chunk}
 use Rattle.definition.specs.State.{State, Facts, Live, join}
-use Rattle.definition.specs.Leaves.{Known, leaves, absorb, opened, closed, moved}
-use Rattle.definition.specs.Start.{start, afterChunk}
-use Rattle.definition.specs.Call.{runOf}
+use Rattle.definition.specs.Leaves.{Known, leaves}
+use Rattle.definition.specs.Start.{afterChunk}
+use Rattle.definition.specs.Call.{analysisOf, runOf}
 use Rattle.machine_laws.specs.Takings.{after-takings, Counted, Spent}
 use Rattle.machine_laws.proofs.Takings.{refused-counted}
 use Rattle.machine_laws.specs.Full.{Full}
 use Rattle.machine_laws.proofs.Limits.{full-exactly}
 use Rattle.refusal_laws.proofs.Only.{OfRes, OfPlace, OfWhere}
 use Rattle.refusal_laws.proofs.Visits.{leaves-of, join-of, after-of}
-use Rattle.refusal_laws.proofs.Runs.{enter-only, takes-only}
+use Rattle.refusal_laws.proofs.Runs.{enter-of, takes-only}
 
 -- ---- what a visit, a join and the end of a chunk refuse by is no number below 13
 abbrev Not : ℕ → ℕ → Type 0
@@ -45,38 +45,30 @@ module _ (k : Known) (cap : ℕ) where
   abbrev W : Type 0
   W = Where Chunk Live Facts State
 
-  after-takings-not : (n : ℕ) (w : W) → OfWhere (Not 7) w
-      → OfWhere (Not 7) (after-takings join cap (k .code .chunks) (λ c. c .reachable) start afterChunk opened (λ x. x .known) (absorb (k .code)) moved closed (leaves k) n w)
+  after-takings-not : (n : ℕ) (w : W) → OfWhere (Not 7) w → OfWhere (Not 7) (after-takings (analysisOf k cap) n w)
   unfolding after-takings next
   after-takings-not zero w h = h
   after-takings-not (suc n) (due m) h =
       after-takings-not n _
-      (takes-only join cap (k .code .chunks) (λ c. c .reachable) start afterChunk opened (λ x. x .known) (absorb (k .code)) moved closed (leaves k)
-      (Not 7) (λ e. omega arith) (join-not 7 (omega arith)) (after-not 7 (omega arith)) (leaves-not 7 (omega arith) k) m (m .queue))
+      (takes-only (analysisOf k cap) (Not 7) (λ e. omega arith) (join-not 7 (omega arith)) (after-not 7 (omega arith)) (leaves-not 7 (omega arith) k) m (m .queue))
   after-takings-not (suc n) (done x) h = tt
   after-takings-not (suc n) (stop x) h = h
 
-  begun-not : (f : Facts)
-      → OfWhere (Not 7) (begun join cap (k .code .chunks) (λ c. c .reachable) start afterChunk opened (λ x. x .known) (absorb (k .code)) moved closed (leaves k) f)
+  begun-not : (f : Facts) → OfWhere (Not 7) (begun (analysisOf k cap) f)
   unfolding begun finish
-  begun-not f =
-      enter-only join cap (k .code .chunks) (λ c. c .reachable) start afterChunk opened (λ x. x .known) (absorb (k .code)) moved closed (leaves k)
-      (Not 7) (λ e. omega arith) (join-not 7 (omega arith)) (after-not 7 (omega arith)) (leaves-not 7 (omega arith) k) false _ (λ g p. tt) 0 _ [] (k .code .chunks)
+  begun-not f = enter-of (analysisOf k cap) (Not 7) (after-not 7 (omega arith)) false _ (λ g p. tt) 0 _ [] (k .code .chunks)
 
   -- THEOREM: 7 is refused only where an entry is due and the limit is used up
   pub seven-exactly : (limit : ℕ) (f : Facts) (ρ : Refusal) → runOf k cap limit f ≡ refused ρ → ρ .number ≡ 7
-      → Spent join cap (k .code .chunks) (λ c. c .reachable) start afterChunk opened (λ x. x .known) (absorb (k .code)) moved closed (leaves k) limit f ρ
+      → Spent (analysisOf k cap) limit f ρ
   unfolding runOf
-  seven-exactly limit f ρ e z =
-      go (refused-counted join cap (k .code .chunks) (λ c. c .reachable) start afterChunk opened (λ x. x .known) (absorb (k .code)) moved closed (leaves k) limit f ρ e)
+  seven-exactly limit f ρ e z = go (refused-counted (analysisOf k cap) limit f ρ e)
     where
-      go : Spent join cap (k .code .chunks) (λ c. c .reachable) start afterChunk opened (λ x. x .known) (absorb (k .code)) moved closed (leaves k) limit f ρ
-          ⊎ Counted join cap (k .code .chunks) (λ c. c .reachable) start afterChunk opened (λ x. x .known) (absorb (k .code)) moved closed (leaves k)
-          (begun join cap (k .code .chunks) (λ c. c .reachable) start afterChunk opened (λ x. x .known) (absorb (k .code)) moved closed (leaves k) f)
-          limit (ρ .steps) (halt (ρ .number) (ρ .chunk) (ρ .instruction))
-          → Spent join cap (k .code .chunks) (λ c. c .reachable) start afterChunk opened (λ x. x .known) (absorb (k .code)) moved closed (leaves k) limit f ρ
+      go : Spent (analysisOf k cap) limit f ρ
+          ⊎ Counted (analysisOf k cap) (begun (analysisOf k cap) f) limit (ρ .steps) (halt (ρ .number) (ρ .chunk) (ρ .instruction))
+          → Spent (analysisOf k cap) limit f ρ
       go (inl s) = s
       go (inr c) =
-          let w : W = begun join cap (k .code .chunks) (λ c. c .reachable) start afterChunk opened (λ x. x .known) (absorb (k .code)) moved closed (leaves k) f in
+          let w : W = begun (analysisOf k cap) f in
           let u = after-takings-not (ρ .steps) w (begun-not f) in
           absurd ((rw (c .ends) at u) z)

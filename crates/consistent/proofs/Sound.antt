@@ -7,9 +7,9 @@ use mathlib.Core.Option.{Option}
 use Rattle.definition.specs.Machine.{Final, accepted}
 use Rattle.definition.specs.Module.{Module, Chunk}
 use Rattle.definition.specs.State.{State, Facts, Live, Gift, join}
-use Rattle.definition.specs.Leaves.{Known, leaves, absorb, opened, closed, moved}
+use Rattle.definition.specs.Leaves.{Known, leaves, absorb, opened}
 use Rattle.definition.specs.Start.{start, afterChunk}
-use Rattle.definition.specs.Call.{runOf}
+use Rattle.definition.specs.Call.{analysisOf, runOf}
 use Rattle.machine_laws.proofs.Settle.{Frame}
 use Rattle.machine_laws.proofs.Sweep.{Each}
 use Rattle.machine_laws.proofs.Sound.{Fixed, Rules, check-sound}
@@ -38,8 +38,8 @@ frame m =
       good = absorb-good m;
     }
 
-rules : (k : Known) → Rules start opened known (absorb (k .code)) moved closed (leaves k) (frame (k .code)) (Fits (k .code)) Pass
-rules k =
+rules : (k : Known) (cap : ℕ) → Rules (analysisOf k cap) (frame (k .code)) (Fits (k .code)) Pass
+rules k cap =
     record {
       agree = agree k;
       passes = λ v c r i s e h t x m. tt;
@@ -58,22 +58,18 @@ pub run-sound : (k : Known) (cap limit : ℕ) (f : Facts) (x : Final Facts State
     → Each (λ c st. (c .reachable ≡ true → Fixes k (x .facts) c st) × (c .reachable ≡ false → st ≡ [])) (k .code .chunks) (x .states)
 unfolding runOf
 run-sound k cap limit f x n h =
-    check-sound join cap (k .code .chunks) (λ c. c .reachable) start afterChunk opened known (absorb (k .code)) moved closed (leaves k)
-    join-laws (frame (k .code)) (Fits (k .code)) Pass (rules k) limit f x n h
+    check-sound (analysisOf k cap) join-laws (frame (k .code)) (Fits (k .code)) Pass (rules k cap) limit f x n h
 
 -- what is recorded of a reachable chunk is reached along ways, from states that the recorded ones have taken in
 pub run-trails : (k : Known) (cap limit : ℕ) (f : Facts) (x : Final Facts State) (n : ℕ) → runOf k cap limit f ≡ accepted x n
     → Each (λ c st. c .reachable ≡ true → Trails join (leaves k true c (x .facts)) st) (k .code .chunks) (x .states)
 unfolding runOf
-run-trails k cap limit f x n h =
-    check-trails join cap (k .code .chunks) (λ c. c .reachable) start afterChunk opened known (absorb (k .code)) moved closed (leaves k)
-    join-laws first-only limit f x n h
+run-trails k cap limit f x n h = check-trails (analysisOf k cap) join-laws first-only limit f x n h
 
 -- the tables keep their sizes and what they took in, through every round
 pub run-declared : (k : Known) (cap limit : ℕ) (f : Facts) (x : Final Facts State) (n : ℕ) → runOf k cap limit f ≡ accepted x n → Declared (k .code) f → Declared (k .code) (x .facts)
 unfolding runOf opened
 run-declared k cap limit f x n h s =
     let (g, p, e) =
-    check-carries join cap (k .code .chunks) (λ c. c .reachable) start afterChunk opened known (absorb (k .code)) moved closed (leaves k)
-    (λ g. Declared (k .code) (g .known)) (absorb-declared (k .code)) (closed-declared (k .code)) limit f x n s h in
+    check-carries (analysisOf k cap) (λ g. Declared (k .code) (g .known)) (absorb-declared (k .code)) (closed-declared (k .code)) limit f x n s h in
     rw e at p

@@ -2,11 +2,11 @@
 use Prim.Native.Nat.{ℕ}
 use mathlib.Core.Path.{_≡_, refl, sym, _∙_, ap}
 use mathlib.Core.Logic.{_⊎_, inl, inr}
-use mathlib.Core.Bool.{Bool, true, false, true≢false}
+use mathlib.Core.Bool.{true, false, true≢false}
 use mathlib.Core.Option.{Option}
 use mathlib.Core.List.{List, [], List·Memᴰ}
 use Rattle.definition.specs.Res.{Res, ok}
-use Rattle.definition.specs.Machine.{Joined, Effect, Work, Final, accepted, adds, check}
+use Rattle.definition.specs.Machine.{Joined, Effect, Work, Final, Analysis, accepted, adds, check}
 use Rattle.machine_laws.proofs.Moves.{Takes, Laws, Recorded, Grown, Moved, Via, puts-inv}
 use Rattle.machine_laws.proofs.Steps.{Steps, stay, drop, step}
 use Rattle.machine_laws.proofs.Sweep.{Each, none-left, one-more, Sweep, swept, skip, work, Idle, Apart, check-apart}
@@ -54,18 +54,13 @@ module _ {F R S G : Type 0} (join : S → S → Res (Joined S)) (laws : Laws joi
       let (m, _) = puts-inv join laws cap (record { states = st; queue = q }) w (e .ways) p in
       run-trails s (move-trails join (leaves (view f)) laws (record { states = st; queue = q }) w i x e m r l h)
 
-module _ {C F R S G : Type 0}
-    (join : S → S → Res (Joined S)) (cap : ℕ) (chunks : List C) (reachable : C → Bool)
-    (start : C → R → List (Option S)) (after : C → List (Option S) → Option (ℕ × ℕ))
-    (open′ : R → F) (view : F → R) (absorb : F → G → F) (loud : F → Bool) (close : F → R)
-    (leaves : Bool → C → R → ℕ → S → Res (Effect S G)) (laws : Laws join)
-    (first-only : (c : C) (r : R) (i : ℕ) (s : S) → Recorded (start c r) i s → i ≡ 0) where
+module _ {C F R S G : Type 0} (α : Analysis C F R S G) (laws : Laws (α .join))
+    (first-only : (c : C) (r : R) (i : ℕ) (s : S) → Recorded (α .start c r) i s → i ≡ 0) where
   abbrev Trailed : R → C → List (Option S) → Type 0
-  Trailed r c st = reachable c ≡ true → Trails join (leaves true c r) st
+  Trailed r c st = α .reachable c ≡ true → Trails (α .join) (α .leaves true c r) st
 
-  sweep-trails : {f f′ : F} {cs : List C} {sts : List (List (Option S))}
-      → Sweep join cap chunks reachable start after open′ view absorb loud close leaves true f cs f′ sts
-      → (f ≡ f′) × Each (Trailed (view f)) cs sts
+  sweep-trails : {f f′ : F} {cs : List C} {sts : List (List (Option S))} → Sweep α true f cs f′ sts
+      → (f ≡ f′) × Each (Trailed (α .view f)) cs sts
   unfolding adds
   sweep-trails swept = (refl, none-left)
   sweep-trails (skip e s) =
@@ -73,25 +68,23 @@ module _ {C F R S G : Type 0}
       (p, one-more (λ u. absurd (true≢false (sym u ∙ e))) h)
   sweep-trails (work {f = f} {f₁ = f₁} {c = c} e a n s) =
       let (p, h) = sweep-trails s in
-      let q : f ≡ f₁ = run-facts join laws cap view (leaves true c) a in (
+      let q : f ≡ f₁ = run-facts (α .join) laws (α .room) (α .view) (α .leaves true c) a in (
         q ∙ p,
-        one-more (λ u. run-trails join laws cap view (leaves true c) a (λ i s r. rw (first-only c (view f) i s r) first)) (rw (← q) at h),
+        one-more (λ u. run-trails (α .join) laws (α .room) (α .view) (α .leaves true c) a (λ i s r. rw (first-only c (α .view f) i s r) first)) (rw (← q) at h),
       )
 
-  idle-trails : {r : R} {cs : List C} {sts : List (List (Option S))} → Each (λ c st. (reachable c ≡ false) × (st ≡ [])) cs sts
+  idle-trails : {r : R} {cs : List C} {sts : List (List (Option S))} → Each (λ c st. (α .reachable c ≡ false) × (st ≡ [])) cs sts
       → Each (Trailed r) cs sts
   idle-trails none-left = none-left
   idle-trails (one-more p e) = one-more (λ u. absurd (true≢false (sym u ∙ p .0))) (idle-trails e)
 
   -- THEOREM: what an accepted check records is reached
-  pub check-trails : (limit : ℕ) (r : R) (x : Final R S) (n : ℕ)
-      → check join cap chunks reachable start after open′ view absorb loud close leaves limit r ≡ accepted x n
-      → Each (λ c st. reachable c ≡ true → Trails join (leaves true c (x .facts)) st) chunks (x .states)
-  check-trails limit r x n h = go (check-apart join cap chunks reachable start after open′ view absorb loud close leaves limit r x n h)
+  pub check-trails : (limit : ℕ) (r : R) (x : Final R S) (n : ℕ) → check α limit r ≡ accepted x n
+      → Each (λ c st. α .reachable c ≡ true → Trails (α .join) (α .leaves true c (x .facts)) st) (α .chunks) (x .states)
+  check-trails limit r x n h = go (check-apart α limit r x n h)
     where
-      go : Idle join cap chunks reachable start after open′ view absorb loud close leaves chunks (x .states)
-          ⊎ Apart join cap chunks reachable start after open′ view absorb loud close leaves x → Each (Trailed (x .facts)) chunks (x .states)
+      go : Idle α (α .chunks) (x .states) ⊎ Apart α x → Each (Trailed (x .facts)) (α .chunks) (x .states)
       go (inl a) = idle-trails a
       go (inr a) =
           let (p, e) = sweep-trails (a .validation) in
-          rw (sym (a .reads) ∙ ap view (sym p)) e
+          rw (sym (a .reads) ∙ ap (α .view) (sym p)) e

@@ -18,18 +18,34 @@ use Rattle.answers.specs.Answers.{nowhere, refusal}
 use Rattle.definition.specs.declared.Form.{Form}
 use Rattle.definition.specs.declared.Form.the-variants.{Fine}
 use Rattle.definition.specs.declared.Form.the-variants.{Refused as Malformed}
-use Rattle.definition.specs.Machine.{Ran, accepted, refused, check}
-use Rattle.definition.specs.Module.{Module, moduleOf}
-use Rattle.definition.specs.State.{State, Facts, join}
+use Rattle.definition.specs.Machine.{Ran, accepted, refused, Analysis, check}
+use Rattle.definition.specs.Module.{Module, Chunk, moduleOf}
+use Rattle.definition.specs.State.{State, Facts, Live, Gift, join}
 use Rattle.definition.specs.Leaves.{Known, leaves, absorb, opened, closed, moved}
 use Rattle.definition.specs.Form.{formOf}
 use Rattle.definition.specs.Start.{admitted, firstFacts, overfull, replyMaximum, knownOf, start, afterChunk}
 use Rattle.definition.specs.Report.{Report, reportOf, reportBytes}
 
--- rounds and validation of a module, with room for `cap` entries in the queue
+-- the rules of this definition, with room for `cap` entries in the queue
+abbrev pub analysisOf : Known → ℕ → Analysis Chunk Live Facts State Gift
+analysisOf k cap = record {
+  join = join;
+  room = cap;
+  chunks = k .code .chunks;
+  reachable = λ c. c .reachable;
+  start = start;
+  after = afterChunk;
+  opened = opened;
+  view = λ f. f .known;
+  absorb = absorb (k .code);
+  moved = moved;
+  closed = closed;
+  leaves = leaves k;
+}
+
+-- rounds and validation of a module
 unfoldable pub runOf : Known → ℕ → ℕ → Facts → Ran Facts State
-runOf k cap limit f =
-    check join cap (k .code .chunks) (λ c. c .reachable) start afterChunk opened (λ x. x .known) (absorb (k .code)) moved closed (leaves k) limit f
+runOf k cap limit f = check (analysisOf k cap) limit f
 
 -- what is decided: a report with its steps, or a refusal
 pub data Decided : Type 0 where

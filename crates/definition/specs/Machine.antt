@@ -1,11 +1,11 @@
 -- The worklist as a flat machine, over any state, facts, join and rule: one taking after another, through rounds and validation.
 -- Of types.rs: the loops without the rules: rounds (lines 540 to 553), chunks (569 to 595), the queue (596, 1256 to 1279); what follows a
--- chunk's validation (1281 to 1329) is the argument `after`. Of document 01: "Steps and passes", but not which passes there are; 7 and 8
+-- chunk's validation (1281 to 1329) is `after` of `Analysis`. Of document 01: "Steps and passes", but not which passes there are; 7 and 8
 -- with their places.
 -- Where it differs: the three loops are one, so that steps, limit and queue have one place each; 7 and 8 are not in types.rs. Readings: B1
 -- the queue, B3 steps, B4 7 against 16 and 17, D11 validation goes through everything once more and adds nothing to the facts.
 -- How it ends: `run` counts the takings that are left; `enter` goes along the chunks, `puts` along the ways. Left open: state, facts, join
--- and rule (`runOf` in Call.antt has them). Some room and limit are enough for every description of good form: crate termination.
+-- and rule (`analysisOf` in Call.antt has them). Some room and limit are enough for every description of good form: crate termination.
 use Prim.Native.Nat.{ℕ, zero, suc}
 use mathlib.Core.Bool.{Bool, true, false, cond, not}
 use mathlib.Core.Option.{Option, none, some}
@@ -107,34 +107,55 @@ pub data Ran (R S : Type 0) : Type 0 where
 abbrev pub halt : {C F R S : Type 0} → ℕ → ℕ → ℕ → Where C F R S
 halt n c i = stop (record { number = n; chunk = c; instruction = i })
 
-module _ {C F R S G : Type 0}
-    -- a state with what comes, refused where the heights differ; the queue's room; the chunks, and which are reachable
-    (join : S → S → Res (Joined S)) (cap : ℕ) (chunks : List C) (reachable : C → Bool)
-    -- the states that a chunk begins with; what follows its validation: a refusal with its place
-    (start : C → R → List (Option S)) (after : C → List (Option S) → Option (ℕ × ℕ))
-    -- a round's facts: begun, read, added to, whether they moved, and closed
-    (open′ : R → F) (view : F → R) (absorb : F → G → F) (moved : F → Bool) (close : F → R)
-    -- the rule; the first argument says whether it validates
-    (leaves : Bool → C → R → ℕ → S → Res (Effect S G)) where
+-- what is analysed, and by which rules
+pub record Analysis (C F R S G : Type 0) : Type 0 where
+  -- a state with what comes, refused where the heights differ; the queue's room; the chunks, and which are reachable
+  pub join : S → S → Res (Joined S)
+  pub room : ℕ
+  pub chunks : List C
+  pub reachable : C → Bool
+  -- the states that a chunk begins with; what follows its validation: a refusal with its place
+  pub start : C → R → List (Option S)
+  pub after : C → List (Option S) → Option (ℕ × ℕ)
+  -- a round's facts: begun, read, added to, whether they moved, and closed
+  pub opened : R → F
+  pub view : F → R
+  pub absorb : F → G → F
+  pub moved : F → Bool
+  pub closed : F → R
+  -- the rule; the first argument says whether it validates
+  pub leaves : Bool → C → R → ℕ → S → Res (Effect S G)
+
+-- the entry due
+unfoldable pub entryDue : List ℕ → ℕ
+entryDue [] = 65535
+entryDue (i ∷ q) = i
+
+unfoldable pub onNext : {C F R S : Type 0} → (Machine C F S → Ran R S) → ℕ → Where C F R S → Ran R S
+onNext more steps (due m) = more m
+onNext more steps (done x) = accepted x steps
+onNext more steps (stop x) = refused (refusal (x .number) (x .chunk) (x .instruction) steps)
+
+module _ {C F R S G : Type 0} (α : Analysis C F R S G) where
   -- only the rounds add to the facts
   unfoldable pub adds : Bool → F → G → F
   adds true f g = f
-  adds false f g = absorb f g
+  adds false f g = α .absorb f g
 
   -- on to the next reachable chunk; an unreachable one has no states
   unfoldable pub enter : Bool → (F → List (List (Option S)) → Where C F R S) → ℕ → F → List (List (Option S)) → List C → Where C F R S
   enter v end n f past [] = end f past
   enter v end n f past (c ∷ cs) =
-      cond (reachable c)
-      (due (record { validating = v; number = n; chunk = c; rest = cs; past = past; states = start c (view f); queue = 0 ∷ []; facts = f }))
+      cond (α .reachable c)
+      (due (record { validating = v; number = n; chunk = c; rest = cs; past = past; states = α .start c (α .view f); queue = 0 ∷ []; facts = f }))
       (enter v end (suc n) f (past ++ ([] ∷ [])) cs)
 
   unfoldable pub finish : F → List (List (Option S)) → Where C F R S
-  finish f past = done (record { facts = view f; states = past })
+  finish f past = done (record { facts = α .view f; states = past })
 
   -- the end of a round: another where the facts moved, else validation
   unfoldable pub endRound : F → List (List (Option S)) → Where C F R S
-  endRound f past = enter (not (moved f)) finish 0 (open′ (close f)) [] chunks
+  endRound f past = enter (not (α .moved f)) finish 0 (α .opened (α .closed f)) [] (α .chunks)
 
   unfoldable pub ending : Bool → F → List (List (Option S)) → Where C F R S
   ending true f past = finish f past
@@ -146,7 +167,7 @@ module _ {C F R S G : Type 0}
 
   -- the queue is empty: on to the next chunk, the next round, validation or the end; it takes no step
   unfoldable pub settle : Machine C F S → Bool → Where C F R S
-  settle m true = onward m (after (m .chunk) (m .states))
+  settle m true = onward m (α .after (m .chunk) (m .states))
   settle m false = onward m none
 
   unfoldable pub settled : Machine C F S → List ℕ → Where C F R S
@@ -172,21 +193,11 @@ module _ {C F R S G : Type 0}
   unfoldable pub takes : Machine C F S → List ℕ → Where C F R S
   takes m [] = settle m (m .validating)
   takes m (i ∷ q) =
-      onSeen m i (visit join cap view (adds (m .validating)) (leaves (m .validating) (m .chunk)) (m .facts) (m .states) q i)
+      onSeen m i (visit (α .join) (α .room) (α .view) (adds (m .validating)) (α .leaves (m .validating) (m .chunk)) (m .facts) (m .states) q i)
 
   -- one taking, and on to where an entry is due again
   unfoldable pub next : Machine C F S → Where C F R S
   next m = takes m (m .queue)
-
-  -- the entry due
-  unfoldable pub entryDue : List ℕ → ℕ
-  entryDue [] = 65535
-  entryDue (i ∷ q) = i
-
-  unfoldable pub onNext : (Machine C F S → Ran R S) → ℕ → Where C F R S → Ran R S
-  onNext more steps (due m) = more m
-  onNext more steps (done x) = accepted x steps
-  onNext more steps (stop x) = refused (refusal (x .number) (x .chunk) (x .instruction) steps)
 
   -- at most `left` more takings, after `steps`; 7 where an entry is due and none is left
   unfoldable pub run : ℕ → ℕ → Machine C F S → Ran R S
@@ -195,7 +206,7 @@ module _ {C F R S G : Type 0}
 
   -- rounds from these facts, then validation
   unfoldable pub begun : R → Where C F R S
-  begun r = enter false finish 0 (open′ r) [] chunks
+  begun r = enter false finish 0 (α .opened r) [] (α .chunks)
 
   unfoldable pub check : ℕ → R → Ran R S
   check limit r = onNext (λ m. run limit 0 m) 0 (begun r)

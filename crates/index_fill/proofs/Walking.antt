@@ -8,6 +8,8 @@ use borrow.Author.Tests.{eq-eqb, ne-eqb}
 use lib.Dec.{eqb}
 use lib.Pow.{pow-lt}
 use lib.ListN.{length, getD}
+use Rattle.words.specs.clearing.Clearing.{cleared}
+use Rattle.words.proofs.clearing.Clearing.{cleared-zero}
 use Rattle.description.specs.declared.Header.{Header}
 use Rattle.description.specs.Fields.{tagAt, nextAt, headerOf, fieldsFrom}
 use Rattle.description.proofs.Walk.{next-after, fields-turn, fields-end}
@@ -18,18 +20,20 @@ use Rattle.form_laws.specs.Good.{Good}
 use Rattle.layout.specs.declared.Tables.{Tables}
 use Rattle.layout.specs.Indexed.{tablesOf, Indexed, Fresh}
 use Rattle.index_fill.specs.declared.model.FillState.{FillState}
-use Rattle.index_fill.specs.model.Model.{areas, oneMore, firstTables, firstWork, codeWords, codeWork, slotWords, tablesAfter, wordsAfter, wordsFrom, tablesFrom}
+use Rattle.index_fill.specs.model.Model.{areas, oneMore, firstTables, firstWork, codeWords, codeWork, slotWords, tablesAfter, wordsAfter, wordsFrom, walkedWords, unmarkedWords, tablesFrom}
 use Rattle.index_fill.proofs.model.Room.{Room, areasIn, area-of, room-after}
-use Rattle.index_fill.proofs.model.Keep.{due}
+use Rattle.index_fill.proofs.model.Keep.{due, keep-after}
 use Rattle.index_fill.proofs.model.AtWork.{length-after}
 use Rattle.index_fill.proofs.model.Begin.{fieldsOf, room-first}
-use Rattle.index_fill.proofs.model.Filled.{tables-hold, index-holds, all-fresh}
+use Rattle.index_fill.proofs.model.Filled.{tables-hold, fresh-index, all-fresh}
+use Rattle.index_fill.proofs.model.Anew.{index-anew, refilled}
+use Rattle.index_fill.specs.Refilled.{Refilled}
 use Rattle.index_fill.specs.Fits.{ForChunk, ForInstr, ForCode, ForSlots}
 use Rattle.layout.specs.Layout.{rowHead, headWords}
 
 -- the walk from here on gives what the whole walk gives
-pub record Going (s begin : List ℕ) (q : ℕ) (ws : List ℕ) (t : Tables) (w : FillState) (at : ℕ) : Type 0 where
-  pub words : wordsFrom s (fieldsFrom s at) t w ws ≡ wordsFrom s (fieldsOf s) (firstTables s q) (firstWork (firstTables s q)) begin
+pub record Going (s begin : List ℕ) (q : ℕ) (keep : Bool) (ws : List ℕ) (t : Tables) (w : FillState) (at : ℕ) : Type 0 where
+  pub words : wordsFrom s (fieldsFrom s at) t w ws ≡ wordsFrom s (fieldsOf s) (firstTables s q) (firstWork (firstTables s q) keep) begin
   pub tables : tablesFrom s (fieldsFrom s at) t ≡ tablesFrom s (fieldsOf s) (firstTables s q)
   pub room : Room s (fieldsFrom s at) t w q
   pub long : length ws ≡ length begin
@@ -40,15 +44,15 @@ pub record Going (s begin : List ℕ) (q : ℕ) (ws : List ℕ) (t : Tables) (w 
   pub shared : t .shared ≤ at
   pub inits : t .inits ≤ at
 
-pub going-first : (s ws : List ℕ) (q : ℕ) (t : Tables) (w : FillState) (at : ℕ) → Good s q → q ≤ length ws → t ≡ firstTables s q → w ≡ firstWork t → at ≡ after s 0
-    → Going s ws q ws t w at
+pub going-first : (s ws : List ℕ) (q : ℕ) (keep : Bool) (t : Tables) (w : FillState) (at : ℕ) → Good s q → q ≤ length ws → t ≡ firstTables s q → w ≡ firstWork t keep → at ≡ after s 0
+    → Going s ws q keep ws t w at
 unfolding firstTables
-going-first s ws q t w at g l e f h =
+going-first s ws q keep t w at g l e f h =
     rw (h, f, e)
     (record {
       words = rw (fields-after s 0);
       tables = rw (fields-after s 0);
-      room = rw (fields-after s 0) (room-first s q g);
+      room = rw (fields-after s 0) (room-first s q g keep);
       long = refl;
       enough = l;
       short = g .long;
@@ -69,7 +73,7 @@ pub float-fits : (s : List ℕ) (q : ℕ) (h : Header) → Good s q → h ≡ he
 float-fits s q h g e = rw e (g .float)
 
 pub first-fits : (s : List ℕ) (q : ℕ) (t : Tables) → Good s q → t ≡ firstTables s q → (t .chunks ≤ 64) × (t .slots ≤ 1024)
-first-fits s q t g e = rw e (room-first s q g .chunksMost, room-first s q g .slotsMost)
+first-fits s q t g e = rw e (room-first s q g false .chunksMost, room-first s q g false .slotsMost)
 
 -- ---- room
 module _ (s : List ℕ) (p : ℕ) (ps : List ℕ) (t : Tables) (w : FillState) (q n : ℕ) (r : Room s (p ∷ ps) t w q) (l : q ≤ n) (b : p < 2097152) where
@@ -93,7 +97,7 @@ module _ (s : List ℕ) (p : ℕ) (ps : List ℕ) (t : Tables) (w : FillState) (
   pub for-code : ForCode (tagAt s p) s p t w n
   for-code = record { chunk = for-chunk; instr = for-instr; site = omega arith }
 
-module _ (s begin : List ℕ) (q : ℕ) (ws : List ℕ) (t : Tables) (w : FillState) (at : ℕ) (g : Going s begin q ws t w at) where
+module _ (s begin : List ℕ) (q : ℕ) (keep : Bool) (ws : List ℕ) (t : Tables) (w : FillState) (at : ℕ) (g : Going s begin q keep ws t w at) where
   pub going-code : (tag : ℕ) → at < length s → tag ≡ tagAt s at → ForCode tag s at t w (length ws)
   going-code tag h e =
       rw e (for-code s at (fieldsFrom s (nextAt s at)) t w q (length ws) (rw (fields-turn s at h) at (g .room)) (g .enough) (g .place))
@@ -119,14 +123,15 @@ one-le : (b : Bool) (n m : ℕ) → n < m → oneMore b n ≤ m
 one-le true n m h = omega arith
 one-le false n m h = omega arith
 
-pub going-next : (s begin ws v x : List ℕ) (q : ℕ) (t u : Tables) (w y : FillState) (at next tag : ℕ) → Going s begin q ws t w at → at < length s
-    → tag ≡ tagAt s at → y ≡ codeWork tag s at t w → v ≡ codeWords tag s at t w ws → x ≡ slotWords tag s at t v → u ≡ tablesAfter tag s at t
-    → next ≡ nextAt s at → next < at + 65539 → Going s begin q x u y next
+pub going-next : (s begin ws v x : List ℕ) (q : ℕ) (keep : Bool) (t u : Tables) (w y : FillState) (at next tag : ℕ) → Going s begin q keep ws t w at → at < length s
+    → tag ≡ tagAt s at → y ≡ codeWork tag s at t w → v ≡ codeWords tag s at t w ws → x ≡ slotWords tag s at t (y .keep) v → u ≡ tablesAfter tag s at t
+    → next ≡ nextAt s at → next < at + 65539 → Going s begin q keep x u y next
 unfolding wordsFrom wordsAfter tablesFrom tablesAfter
-going-next s begin ws v x q t u w y at next tag g h e ey ev ex eu en l =
+going-next s begin ws v x q keep t u w y at next tag g h e ey ev ex eu en l =
     let a : at < nextAt s at = next-after s at in
     let z = length-after s at t w ws in
-    rw (en, eu, ey, ex, ev, e)
+    let ez = rw (ey, keep-after tag s at t w) at ex in
+    rw (en, eu, ey, ez, ev, e)
     (record {
       words = rw (fields-turn s at h) at (g .words);
       tables = rw (fields-turn s at h) at (g .tables);
@@ -141,17 +146,36 @@ going-next s begin ws v x q t u w y at next tag g h e ey ev ex eu en l =
     })
 
 -- ---- the end
-pub going-done : (s begin : List ℕ) (q : ℕ) (ws : List ℕ) (t : Tables) (w : FillState) (at : ℕ) → Going s begin q ws t w at → length s ≤ at
-    → Good s q → q ≤ length begin → ((k : ℕ) → k < headWords + 16 * (headerOf s 0 .chunks + headerOf s 0 .slots) → getD begin k 0 ≡ 0)
-    → (t ≡ tablesOf s) × Indexed s ws × Fresh s ws × (length ws ≡ length begin)
-unfolding wordsFrom tablesFrom
-going-done s begin q ws t w at g h good l z =
+pub going-done : (s begin : List ℕ) (q : ℕ) (keep : Bool) (ws : List ℕ) (t : Tables) (w : FillState) (at : ℕ) → Going s begin q keep ws t w at → length s ≤ at
+    → Good s q → q ≤ length begin → (t ≡ tablesOf s) × (ws ≡ walkedWords s q keep begin)
+unfolding wordsFrom tablesFrom walkedWords
+going-done s begin q keep ws t w at g h good l =
     let x = rw (fields-end s at h) at (g .words) in
     let y = rw (fields-end s at h) at (g .tables) in
-    (y ∙ tables-hold s begin q good l z, rw x (index-holds s begin q good l z), rw x (all-fresh s begin q good l z), g .long)
+    (y ∙ tables-hold s begin q keep good l, x)
 
 -- ---- the words cleared first
 -- the slots end before the first chunk's inputs
 pub front-fits : (s : List ℕ) (q : ℕ) (h : Header) → Good s q → h ≡ headerOf s 0 → headWords + 16 * (h .chunks + h .slots) ≤ q
 unfolding firstTables firstWork
-front-fits s q h g e = rw e (omega (arith, room-first s q g .areas, room-first s q g .words))
+front-fits s q h g e = rw e (omega (arith, room-first s q g false .areas, room-first s q g false .words))
+
+pub filled : (s ws u v : List ℕ) (q : ℕ) (h : Header) → Good s q → h ≡ headerOf s 0 → u ≡ cleared ws (headWords + 16 * (h .chunks + h .slots)) → q ≤ length u
+    → v ≡ walkedWords s q false u → Indexed s v × Fresh s v
+unfolding walkedWords
+filled s ws u v q h g e f l x = rw x (fresh-index s u q g l zeros, all-fresh s u q g l zeros)
+  where
+    zeros : (k : ℕ) → k < headWords + 16 * (headerOf s 0 .chunks + headerOf s 0 .slots) → getD u k 0 ≡ 0
+    zeros k i = rw f (cleared-zero ws _ k (rw e i))
+
+-- ---- the marks cleared first
+pub first-slots : (s : List ℕ) (q : ℕ) (t : Tables) (n : ℕ) → Good s q → q ≤ n → t ≡ firstTables s q → ForSlots t n
+unfolding firstTables firstWork
+first-slots s q t n g l e =
+    let r = room-first s q g true in
+    rw e (record { chunks = r .chunksMost; slots = r .slotsMost; shared = omega arith; inits = omega arith; words = omega (arith, r .words) })
+
+pub anew : (s ws u v : List ℕ) (q : ℕ) (t : Tables) → Good s q → q ≤ length ws → t ≡ firstTables s q → u ≡ unmarkedWords t (t .slots) ws
+    → v ≡ walkedWords s q true u → Indexed s v × Refilled s ws v
+unfolding walkedWords
+anew s ws u v q t g l e f x = rw (x, f, e) (index-anew s ws q g l, refilled s ws q g l)

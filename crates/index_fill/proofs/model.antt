@@ -3,7 +3,10 @@ pub mod Keep
 pub mod AtWork
 pub mod Chunks
 pub mod Orderly
+pub mod Standing
 pub mod Slots
+pub mod Unmarked
 pub mod Counts
 pub mod Begin
 pub mod Filled
+pub mod Anew

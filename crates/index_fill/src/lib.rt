@@ -24,17 +24,16 @@ use words::clear;
 use words::put_words;
 ghost use mathlib.Core.Path.{_≡_};
 ghost use mathlib.Core.Bool.{cond};
-ghost use Prim.Native.Nat.{ℕ, _+_, _*_, _<_, _≤_, _^_};
+ghost use Prim.Native.Nat.{_<_, _≤_, _^_};
 ghost use lib.Dec.{eqb};
-ghost use lib.ListN.{length, getD};
-ghost use Rattle.description.specs.Fields.{headerOf};
+ghost use lib.ListN.{length};
 ghost use Rattle.definition.specs.Bounds.{mostChunks, mostSlots};
 ghost use Rattle.definition.specs.Module.{initOf};
 ghost use Rattle.form_laws.specs.Good.{Good};
-ghost use Rattle.layout.specs.Layout.{headWords};
 ghost use Rattle.layout.specs.Indexed.{bit, Indexed, Fresh, tablesOf};
-ghost use Rattle.index_fill.specs.model.Model.{firstTables, firstWork, numbersOf, numberWords, chunkWords, chunkWork, instrWords, instrWork, codeWords, codeWork, markWords, initWords, slotWords, tablesAfter};
+ghost use Rattle.index_fill.specs.model.Model.{firstTables, firstWork, numbersOf, numberWords, chunkWords, chunkWork, instrWords, instrWork, codeWords, codeWork, markWords, initWords, slotWords, tablesAfter, walkedWords, unmarkedWords};
 ghost use Rattle.index_fill.specs.Fits.{Small, ForChunk, ForInstr, ForCode, ForSlots};
+ghost use Rattle.index_fill.specs.Refilled.{Refilled};
 
 // ---- before the first field
 fn first_tables(s: &[u8], queue: usize) -> Tables
@@ -61,9 +60,9 @@ fn first_tables(s: &[u8], queue: usize) -> Tables
     }
 }
 
-fn first_work(t: Tables) -> FillState
+fn first_work(t: Tables, keep: bool) -> FillState
     requires { ⌜ (t .chunks ≤ mostChunks) × (t .slots ≤ mostSlots) ⌝ }
-    ensures { λ r. ⌜ r ≡ firstWork t ⌝ }
+    ensures { λ r. ⌜ r ≡ firstWork t keep ⌝ }
 {
     FillState {
         seen: 0,
@@ -71,6 +70,7 @@ fn first_work(t: Tables) -> FillState
         instrs: 0,
         free: HEAD_WORDS + 16 * (t.chunks + t.slots),
         size: 0,
+        keep,
     }
 }
 
@@ -140,6 +140,7 @@ fn fill_chunk(s: &[u8], ws: &mut [u32], p: usize, t: Tables, w: FillState) -> Fi
         instrs: 0,
         free: c.rows,
         size: c.size,
+        keep: w.keep,
     }
 }
 
@@ -158,6 +159,7 @@ fn fill_instr(ws: &mut [u32], p: usize, w: FillState) -> FillState
         instrs: w.instrs + 1,
         free: w.free + w.size,
         size: w.size,
+        keep: w.keep,
     }
 }
 
@@ -189,7 +191,7 @@ fn mark(ws: &mut [u32], t: Tables, slot: usize)
 {
     if slot < t.slots {
         let at = slot_at(t, slot) + 15;
-        ws[at] = 65536;
+        ws[at] = ws[at] % 65536 + 65536;
     }
 }
 
@@ -212,13 +214,17 @@ fn init_mask(s: &[u8], p: usize) -> Mask
     Mask::constant(u8_at(s, p + 3), u8_at(s, p + 4) == 1)
 }
 
-fn fill_slot(tag: u8, s: &[u8], ws: &mut [u32], p: usize, t: Tables)
+fn fill_slot(tag: u8, s: &[u8], ws: &mut [u32], p: usize, t: Tables, keep: bool)
     requires { ⌜ (p < 2 ^ 62) × ForSlots t (length (now ws)) ⌝ }
-    ensures { λ r. ⌜ now (ws .exit) ≡ slotWords tag (now (s .entry)) p t (now (ws .entry)) ⌝ }
+    ensures { λ r. ⌜ now (ws .exit) ≡ slotWords tag (now (s .entry)) p t keep (now (ws .entry)) ⌝ }
 {
     match tag {
         7 => mark(ws, t, u16_at(s, p + 3) as usize),
-        8 => init(ws, t, init_mask(s, p)),
+        8 => {
+            if !keep {
+                init(ws, t, init_mask(s, p));
+            }
+        }
         _ => {}
     }
 }
@@ -258,23 +264,21 @@ fn tables_after(tag: u8, s: &[u8], p: usize, t: Tables) -> Tables
     }
 }
 
-// The walk, where the words of the slots are 0.
-fn walk(s: &[u8], ws: &mut [u32], queue: usize) -> Tables
+fn walk(s: &[u8], ws: &mut [u32], queue: usize, keep: bool) -> Tables
     requires { ⌜ Good (now s) queue ⌝ }
     requires { ⌜ queue ≤ length (now ws) ⌝ }
-    requires { ⌜ ((k : ℕ) → k < headWords + 16 * (headerOf (now s) 0 .chunks + headerOf (now s) 0 .slots) → getD (now ws) k 0 ≡ 0) ⌝ }
     ensures { λ r. ⌜
-        (r ≡ tablesOf (now (s .entry))) × Indexed (now (s .entry)) (now (ws .exit)) × Fresh (now (s .entry)) (now (ws .exit))
-        × (length (now (ws .exit)) ≡ length (now (ws .entry)))
+        (r ≡ tablesOf (now (s .entry)))
+        × (now (ws .exit) ≡ walkedWords (now (s .entry)) queue keep (now (ws .entry)))
         ⌝ }
 {
     let mut t = first_tables(s, queue);
-    let mut w = first_work(t);
+    let mut w = first_work(t, keep);
     let mut at = second(s);
     while at < s.len() {
         let tag = tag_at(s, at);
         w = fill_code(tag, s, ws, at, t, w);
-        fill_slot(tag, s, ws, at, t);
+        fill_slot(tag, s, ws, at, t, w.keep);
         t = tables_after(tag, s, at, t);
         at = next_at(s, at);
     }
@@ -295,5 +299,31 @@ pub fn fill(s: &[u8], ws: &mut [u32], queue: usize) -> Tables
         ws,
         HEAD_WORDS + 16 * ((h.chunks as usize) + (h.slots as usize)),
     );
-    walk(s, ws, queue)
+    walk(s, ws, queue, false)
+}
+
+// No slot is marked. The writes of a round, below the marks, stay.
+fn unmark(ws: &mut [u32], t: Tables)
+    requires { ⌜ ForSlots t (length (now ws)) ⌝ }
+    ensures { λ r. ⌜ now (ws .exit) ≡ unmarkedWords t (t .slots) (now (ws .entry)) ⌝ }
+{
+    let mut slot = 0;
+    while slot < t.slots {
+        let at = slot_at(t, slot) + 15;
+        ws[at] = ws[at] % 65536;
+        slot += 1;
+    }
+}
+
+// The index of a description of good form written anew, in words that hold anything else as well: states, facts and queue of a run stay.
+pub fn refill(s: &[u8], ws: &mut [u32], queue: usize) -> Tables
+    requires { ⌜ Good (now s) queue ⌝ }
+    requires { ⌜ queue ≤ length (now ws) ⌝ }
+    ensures { λ r. ⌜
+        (r ≡ tablesOf (now (s .entry))) × Indexed (now (s .entry)) (now (ws .exit))
+        × Refilled (now (s .entry)) (now (ws .entry)) (now (ws .exit))
+        ⌝ }
+{
+    unmark(ws, first_tables(s, queue));
+    walk(s, ws, queue, true)
 }

@@ -8,4 +8,6 @@ pub struct FillState {
     // the next free word, and the words of a row
     pub free: usize,
     pub size: usize,
+    // whether what a run left in the slots stays
+    pub keep: bool,
 }

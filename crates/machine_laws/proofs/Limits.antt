@@ -10,7 +10,7 @@ use lib.ListN.{length, getD, set}
 use lib.Dec.{T, ltb, ltb→lt, lt→ltb, nltb→le}
 use Rattle.answers.specs.declared.Refusal.{Refusal}
 use Rattle.definition.specs.Res.{Res, ok, bad, bind}
-use Rattle.definition.specs.Machine.{Joined, Effect, Work, Seen, Machine, Final, Where, due, done, stop, accepted, refused, halt, push, putJoined, putAt, putIn, put, puts, visitAt, visit, adds, enter, finish, endRound, ending, onward, settle, settled, onSeen, takes, next, begun, check}
+use Rattle.definition.specs.Machine.{Joined, Effect, Work, Seen, Machine, Final, Where, Analysis, due, done, stop, accepted, refused, halt, push, putJoined, putAt, putIn, put, puts, visitAt, visit, adds, enter, finish, endRound, ending, onward, settle, settled, onSeen, takes, next, begun, check}
 use Rattle.machine_laws.specs.Takings.{Counted, after-takings, Spent}
 use Rattle.machine_laws.specs.Full.{Full}
 use Rattle.machine_laws.proofs.Bind.{bad≢ok, bad-inj}
@@ -80,93 +80,90 @@ Unfull (due m) = Unit {0}
 Unfull (done x) = Unit {0}
 Unfull (stop x) = x .number ≡ 8 → ⊥
 
-module _ {C F R S G : Type 0}
-    (join : S → S → Res (Joined S)) (cap cap′ : ℕ) (chunks : List C) (reachable : C → Bool)
-    (start : C → R → List (Option S)) (after : C → List (Option S) → Option (ℕ × ℕ))
-    (open′ : R → F) (view : F → R) (absorb : F → G → F) (moved : F → Bool) (close : F → R)
-    (leaves : Bool → C → R → ℕ → S → Res (Effect S G)) where
+-- the same with another room in the queue
+abbrev pub withRoom : {C F R S G : Type 0} → Analysis C F R S G → ℕ → Analysis C F R S G
+withRoom α cap = record {
+  join = α .join;
+  room = cap;
+  chunks = α .chunks;
+  reachable = α .reachable;
+  start = α .start;
+  after = α .after;
+  opened = α .opened;
+  view = α .view;
+  absorb = α .absorb;
+  moved = α .moved;
+  closed = α .closed;
+  leaves = α .leaves;
+}
+
+module _ {C F R S G : Type 0} (α : Analysis C F R S G) (cap : ℕ) where
+  abbrev α′ : Analysis C F R S G
+  α′ = withRoom α cap
+
   -- ---- between takings the room plays no part
   enter-same : (v : Bool) (end end′ : F → List (List (Option S)) → Where C F R S)
       → ((f : F) (past : List (List (Option S))) → end f past ≡ end′ f past) → (n : ℕ) (f : F) (past : List (List (Option S))) (cs : List C)
-      → enter join cap chunks reachable start after open′ view absorb moved close leaves v end n f past cs
-      ≡ enter join cap′ chunks reachable start after open′ view absorb moved close leaves v end′ n f past cs
+      → enter α v end n f past cs ≡ enter α′ v end′ n f past cs
   unfolding enter
   enter-same v end end′ h n f past [] = h f past
   enter-same v end end′ h n f past (c ∷ cs) = rw (enter-same v end end′ h (suc n) f (past ++ ([] ∷ [])) cs) refl
 
-  ending-same : (v : Bool) (f : F) (past : List (List (Option S)))
-      → ending join cap chunks reachable start after open′ view absorb moved close leaves v f past
-      ≡ ending join cap′ chunks reachable start after open′ view absorb moved close leaves v f past
+  ending-same : (v : Bool) (f : F) (past : List (List (Option S))) → ending α v f past ≡ ending α′ v f past
   unfolding ending endRound finish
   ending-same true f past = refl
-  ending-same false f past = enter-same (not (moved f)) _ _ (λ f past. refl) 0 (open′ (close f)) [] chunks
+  ending-same false f past = enter-same (not (α .moved f)) _ _ (λ f past. refl) 0 (α .opened (α .closed f)) [] (α .chunks)
 
-  onward-same : (m : Machine C F S) (o : Option (ℕ × ℕ))
-      → onward join cap chunks reachable start after open′ view absorb moved close leaves m o
-      ≡ onward join cap′ chunks reachable start after open′ view absorb moved close leaves m o
+  onward-same : (m : Machine C F S) (o : Option (ℕ × ℕ)) → onward α m o ≡ onward α′ m o
   unfolding onward
   onward-same m (some x) = refl
   onward-same m none = enter-same (m .validating) _ _ (ending-same (m .validating)) (suc (m .number)) (m .facts) (m .past ++ (m .states ∷ [])) (m .rest)
 
-  settle-same : (m : Machine C F S) (v : Bool)
-      → settle join cap chunks reachable start after open′ view absorb moved close leaves m v
-      ≡ settle join cap′ chunks reachable start after open′ view absorb moved close leaves m v
+  settle-same : (m : Machine C F S) (v : Bool) → settle α m v ≡ settle α′ m v
   unfolding settle
-  settle-same m true = onward-same m (after (m .chunk) (m .states))
+  settle-same m true = onward-same m (α .after (m .chunk) (m .states))
   settle-same m false = onward-same m none
 
-  settled-same : (m : Machine C F S) (q : List ℕ)
-      → settled join cap chunks reachable start after open′ view absorb moved close leaves m q
-      ≡ settled join cap′ chunks reachable start after open′ view absorb moved close leaves m q
+  settled-same : (m : Machine C F S) (q : List ℕ) → settled α m q ≡ settled α′ m q
   unfolding settled
   settled-same m [] = settle-same m (m .validating)
   settled-same m (i ∷ q) = refl
 
-  begun-same : (r : R) → begun join cap chunks reachable start after open′ view absorb moved close leaves r
-      ≡ begun join cap′ chunks reachable start after open′ view absorb moved close leaves r
+  begun-same : (r : R) → begun α r ≡ begun α′ r
   unfolding begun finish
-  begun-same r = enter-same false _ _ (λ f past. refl) 0 (open′ r) [] chunks
+  begun-same r = enter-same false _ _ (λ f past. refl) 0 (α .opened r) [] (α .chunks)
 
-  module _ (more : cap ≤ cap′) where
-    takes-more : (m : Machine C F S) (q : List ℕ) → Unfull (takes join cap chunks reachable start after open′ view absorb moved close leaves m q)
-        → takes join cap′ chunks reachable start after open′ view absorb moved close leaves m q
-        ≡ takes join cap chunks reachable start after open′ view absorb moved close leaves m q
+  module _ (more : α .room ≤ cap) where
+    takes-more : (m : Machine C F S) (q : List ℕ) → Unfull (takes α m q) → takes α′ m q ≡ takes α m q
     unfolding takes onSeen adds
     takes-more m [] l = sym (settle-same m (m .validating))
     takes-more m (i ∷ q) l =
         seen _ _ l
-        (visit-more join cap cap′ more view (adds join cap chunks reachable start after open′ view absorb moved close leaves (m .validating)) (leaves (m .validating) (m .chunk)) (m .facts) (m .states) q i)
+        (visit-more (α .join) (α .room) cap more (α .view) (adds α (m .validating)) (α .leaves (m .validating) (m .chunk)) (m .facts) (m .states) q i)
       where
-        seen : (a a′ : Res (Seen F S)) → Unfull (onSeen join cap chunks reachable start after open′ view absorb moved close leaves m i a) → Full8 a a′
-            → onSeen join cap′ chunks reachable start after open′ view absorb moved close leaves m i a′
-            ≡ onSeen join cap chunks reachable start after open′ view absorb moved close leaves m i a
+        seen : (a a′ : Res (Seen F S)) → Unfull (onSeen α m i a) → Full8 a a′ → onSeen α′ m i a′ ≡ onSeen α m i a
         seen a a′ l (inl e) = absurd ((rw e at l) refl)
         seen (bad n) a′ l (inr e) = rw e
         seen (ok r) a′ l (inr e) = rw e (sym (settled-same _ (r .work .queue)))
 
-    unfull-before : (k : ℕ) (w : Where C F R S) → Unfull (after-takings join cap chunks reachable start after open′ view absorb moved close leaves k w) → Unfull w
+    unfull-before : (k : ℕ) (w : Where C F R S) → Unfull (after-takings α k w) → Unfull w
     unfolding after-takings
     unfull-before zero w l = l
     unfull-before (suc k) (due m) l = tt
     unfull-before (suc k) (done x) l = tt
     unfull-before (suc k) (stop x) l = l
 
-    after-more : (k : ℕ) (w : Where C F R S) → Unfull (after-takings join cap chunks reachable start after open′ view absorb moved close leaves k w)
-        → after-takings join cap′ chunks reachable start after open′ view absorb moved close leaves k w
-        ≡ after-takings join cap chunks reachable start after open′ view absorb moved close leaves k w
+    after-more : (k : ℕ) (w : Where C F R S) → Unfull (after-takings α k w) → after-takings α′ k w ≡ after-takings α k w
     unfolding after-takings next
     after-more zero w l = refl
-    after-more (suc k) (due m) l =
-        rw (takes-more m (m .queue) (unfull-before k (next join cap chunks reachable start after open′ view absorb moved close leaves m) l))
-        (after-more k (next join cap chunks reachable start after open′ view absorb moved close leaves m) l)
+    after-more (suc k) (due m) l = rw (takes-more m (m .queue) (unfull-before k (next α m) l)) (after-more k (next α m) l)
     after-more (suc k) (done x) l = refl
     after-more (suc k) (stop x) l = refl
 
     counted-more : (limit limit′ : ℕ) (r : R) (n : ℕ) (end : Where C F R S) → limit ≤ limit′ → Unfull end
-        → Counted join cap chunks reachable start after open′ view absorb moved close leaves (begun join cap chunks reachable start after open′ view absorb moved close leaves r) limit n end
-        → Counted join cap′ chunks reachable start after open′ view absorb moved close leaves (begun join cap′ chunks reachable start after open′ view absorb moved close leaves r) limit′ n end
+        → Counted α (begun α r) limit n end → Counted α′ (begun α′ r) limit′ n end
     counted-more limit limit′ r n end l u c =
-        let w : Where C F R S = begun join cap chunks reachable start after open′ view absorb moved close leaves r in
+        let w : Where C F R S = begun α r in
         rw (← begun-same r)
         (record {
           within = let m = c .within in omega arith;
@@ -175,40 +172,30 @@ module _ {C F R S G : Type 0}
         })
 
     -- THEOREM: an accepted check is accepted with more room and more steps, with the same states, facts and steps
-    pub check-more : (limit limit′ : ℕ) (r : R) (x : Final R S) (n : ℕ) → limit ≤ limit′
-        → check join cap chunks reachable start after open′ view absorb moved close leaves limit r ≡ accepted x n
-        → check join cap′ chunks reachable start after open′ view absorb moved close leaves limit′ r ≡ accepted x n
+    pub check-more : (limit limit′ : ℕ) (r : R) (x : Final R S) (n : ℕ) → limit ≤ limit′ → check α limit r ≡ accepted x n
+        → check α′ limit′ r ≡ accepted x n
     check-more limit limit′ r x n l h =
-        counted-accepted join cap′ chunks reachable start after open′ view absorb moved close leaves limit′ r x n
-        (counted-more limit limit′ r n (done x) l tt (accepted-counted join cap chunks reachable start after open′ view absorb moved close leaves limit r x n h))
+        counted-accepted α′ limit′ r x n (counted-more limit limit′ r n (done x) l tt (accepted-counted α limit r x n h))
 
     -- THEOREM: and one that is refused, but not by 7 or 8, is refused alike
     pub refused-more : (limit limit′ : ℕ) (r : R) (ρ : Refusal) → limit ≤ limit′ → (ρ .number ≡ 7 → ⊥) → (ρ .number ≡ 8 → ⊥)
-        → check join cap chunks reachable start after open′ view absorb moved close leaves limit r ≡ refused ρ
-        → check join cap′ chunks reachable start after open′ view absorb moved close leaves limit′ r ≡ refused ρ
-    refused-more limit limit′ r ρ l a b h = go (refused-counted join cap chunks reachable start after open′ view absorb moved close leaves limit r ρ h)
+        → check α limit r ≡ refused ρ → check α′ limit′ r ≡ refused ρ
+    refused-more limit limit′ r ρ l a b h = go (refused-counted α limit r ρ h)
       where
-        go : Spent join cap chunks reachable start after open′ view absorb moved close leaves limit r ρ
-            ⊎ Counted join cap chunks reachable start after open′ view absorb moved close leaves (begun join cap chunks reachable start after open′ view absorb moved close leaves r)
-            limit (ρ .steps) (halt (ρ .number) (ρ .chunk) (ρ .instruction))
-            → check join cap′ chunks reachable start after open′ view absorb moved close leaves limit′ r ≡ refused ρ
+        go : Spent α limit r ρ ⊎ Counted α (begun α r)
+            limit (ρ .steps) (halt (ρ .number) (ρ .chunk) (ρ .instruction)) → check α′ limit′ r ≡ refused ρ
         go (inl (m, e, p)) = absurd (a (ap (λ (q : Refusal). q .number) p))
         go (inr c) =
-            counted-refused join cap′ chunks reachable start after open′ view absorb moved close leaves limit′ r _ (ρ .steps)
+            counted-refused α′ limit′ r _ (ρ .steps)
             (counted-more limit limit′ r (ρ .steps) (halt (ρ .number) (ρ .chunk) (ρ .instruction)) l b c)
 
 -- THEOREM: two accepted checks of the same chunks and facts agree, whatever room and steps they were given
-pub accepted-same : {C F R S G : Type 0}
-    (join : S → S → Res (Joined S)) (cap cap′ : ℕ) (chunks : List C) (reachable : C → Bool)
-    (start : C → R → List (Option S)) (after : C → List (Option S) → Option (ℕ × ℕ))
-    (open′ : R → F) (view : F → R) (absorb : F → G → F) (moved : F → Bool) (close : F → R)
-    (leaves : Bool → C → R → ℕ → S → Res (Effect S G)) (limit limit′ : ℕ) (r : R) (x x′ : Final R S) (n n′ : ℕ)
-    → check join cap chunks reachable start after open′ view absorb moved close leaves limit r ≡ accepted x n
-    → check join cap′ chunks reachable start after open′ view absorb moved close leaves limit′ r ≡ accepted x′ n′ → (x ≡ x′) × (n ≡ n′)
-accepted-same join cap cap′ chunks reachable start after open′ view absorb moved close leaves limit limit′ r x x′ n n′ h h′ =
+pub accepted-same : {C F R S G : Type 0} (α : Analysis C F R S G) (cap limit limit′ : ℕ) (r : R) (x x′ : Final R S) (n n′ : ℕ)
+    → check α limit r ≡ accepted x n → check (withRoom α cap) limit′ r ≡ accepted x′ n′ → (x ≡ x′) × (n ≡ n′)
+accepted-same α cap limit limit′ r x x′ n n′ h h′ =
     accepted-inj
-    (sym (check-more join cap (cap + cap′) chunks reachable start after open′ view absorb moved close leaves (omega arith) limit (limit + limit′) r x n (omega arith) h)
-    ∙ check-more join cap′ (cap + cap′) chunks reachable start after open′ view absorb moved close leaves (omega arith) limit′ (limit + limit′) r x′ n′ (omega arith) h′)
+    (sym (check-more α (α .room + cap) (omega arith) limit (limit + limit′) r x n (omega arith) h)
+    ∙ check-more (withRoom α cap) (α .room + cap) (omega arith) limit′ (limit + limit′) r x′ n′ (omega arith) h′)
 
 -- ---- 8: where the queue is full
 module _ {S : Type 0} (join : S → S → Res (Joined S)) (cap : ℕ) where

@@ -11,9 +11,9 @@ use Rattle.answers.specs.declared.Refusal.{Refusal}
 use Rattle.definition.specs.Machine.{Ran, accepted, refused}
 use Rattle.definition.specs.Module.{Module, Chunk}
 use Rattle.definition.specs.State.{State, Facts, join}
-use Rattle.definition.specs.Leaves.{Known, leaves, absorb, opened, closed, moved}
-use Rattle.definition.specs.Start.{agree, admission, admitted, overfull, start, afterChunk}
-use Rattle.definition.specs.Call.{runOf, turned, onRan, admittedRun, onReply, known, onAdmitted, decided}
+use Rattle.definition.specs.Leaves.{Known, leaves}
+use Rattle.definition.specs.Start.{agree, admission, admitted, overfull, afterChunk}
+use Rattle.definition.specs.Call.{analysisOf, runOf, turned, onRan, admittedRun, onReply, known, onAdmitted, decided}
 use Rattle.refusal_laws.proofs.Only.{either, OfFault, OfRes, OfPlace, OfRan, OfDecided, there}
 use Rattle.refusal_laws.proofs.Visits.{leaves-of, join-of, after-of}
 use Rattle.refusal_laws.proofs.Runs.{check-only}
@@ -54,8 +54,7 @@ module _ (P : ℕ → Type 0) (p9 : P 9) (p10 : P 10) where
 run-late : (k : Known) (cap limit : ℕ) (f : Facts) → OfRan Late (runOf k cap limit f)
 unfolding runOf
 run-late k cap limit f =
-    check-only join cap (k .code .chunks) (λ c. c .reachable) start afterChunk opened (λ x. x .known) (absorb (k .code)) moved closed (leaves k)
-    Late (omega arith, omega arith) join-late after-late (leaves-late k) (omega arith, omega arith) limit f
+    check-only (analysisOf k cap) Late (omega arith, omega arith) join-late after-late (leaves-late k) (omega arith, omega arith) limit f
 
 on-ran : (k : Known) (reply : ℕ) (x : Ran Facts State) → OfRan Late x → OfDecided Late (onRan k reply x)
 unfolding onRan

@@ -6,7 +6,7 @@ use mathlib.Core.List.{List, [], _∷_, _++_}
 use lib.ListN.{length, getD}
 use lib.Dec.{ltb}
 use Rattle.definition.specs.Res.{Res, ok, bad}
-use Rattle.definition.specs.Machine.{Joined, Effect, Work, Seen, Machine, Where, due, done, stop, Ran, push, putJoined, putAt, putIn, put, puts, visitAt, visit, enter, finish, endRound, ending, onward, settle, settled, onSeen, takes, next, onNext, run, begun, check}
+use Rattle.definition.specs.Machine.{Joined, Effect, Work, Seen, Machine, Where, due, done, stop, Ran, Analysis, push, putJoined, putAt, putIn, put, puts, visitAt, visit, enter, finish, endRound, ending, onward, settle, settled, onSeen, takes, next, onNext, run, begun, check}
 use Rattle.refusal_laws.proofs.Only.{either, OfRes, OfPlace, OfWhere, OfRan, bind-of}
 
 module _ (Only : ℕ → Type 0) (only-8 : Only 8) where
@@ -46,81 +46,66 @@ module _ (Only : ℕ → Type 0) (only-8 : Only 8) where
         (λ e. bind-of Only (puts join cap (record { states = st; queue = q }) (e .ways)) _ (puts-only _ (e .ways)) (λ w. tt))
 
 -- ---- between two takings: only what follows a chunk refuses
-module _ {C F R S G : Type 0} (join : S → S → Res (Joined S)) (cap : ℕ) (chunks : List C) (reachable : C → Bool)
-    (start : C → R → List (Option S)) (after : C → List (Option S) → Option (ℕ × ℕ))
-    (open′ : R → F) (view : F → R) (absorb : F → G → F) (loud : F → Bool) (close : F → R)
-    (leaves : Bool → C → R → ℕ → S → Res (Effect S G))
-    (Only : ℕ → Type 0) (follows : (c : C) (st : List (Option S)) → OfPlace Only (after c st)) where
+module _ {C F R S G : Type 0} (α : Analysis C F R S G)
+    (Only : ℕ → Type 0) (follows : (c : C) (st : List (Option S)) → OfPlace Only (α .after c st)) where
   pub enter-of : (v : Bool) (end : F → List (List (Option S)) → Where C F R S) → ((f : F) (past : List (List (Option S))) → OfWhere Only (end f past))
-      → (n : ℕ) (f : F) (past : List (List (Option S))) (cs : List C)
-      → OfWhere Only (enter join cap chunks reachable start after open′ view absorb loud close leaves v end n f past cs)
+      → (n : ℕ) (f : F) (past : List (List (Option S))) (cs : List C) → OfWhere Only (enter α v end n f past cs)
   unfolding enter
   enter-of v end h n f past [] = h f past
-  enter-of v end h n f past (c ∷ cs) = either (OfWhere Only) (reachable c) tt (enter-of v end h (suc n) f (past ++ ([] ∷ [])) cs)
+  enter-of v end h n f past (c ∷ cs) = either (OfWhere Only) (α .reachable c) tt (enter-of v end h (suc n) f (past ++ ([] ∷ [])) cs)
 
-  ending-of : (v : Bool) (f : F) (past : List (List (Option S)))
-      → OfWhere Only (ending join cap chunks reachable start after open′ view absorb loud close leaves v f past)
+  ending-of : (v : Bool) (f : F) (past : List (List (Option S))) → OfWhere Only (ending α v f past)
   unfolding ending endRound finish
   ending-of true f past = tt
-  ending-of false f past = enter-of (not (loud f)) _ (λ g p. tt) 0 _ [] chunks
+  ending-of false f past = enter-of (not (α .moved f)) _ (λ g p. tt) 0 _ [] (α .chunks)
 
-  onward-of : (m : Machine C F S) (o : Option (ℕ × ℕ)) → OfPlace Only o
-      → OfWhere Only (onward join cap chunks reachable start after open′ view absorb loud close leaves m o)
+  onward-of : (m : Machine C F S) (o : Option (ℕ × ℕ)) → OfPlace Only o → OfWhere Only (onward α m o)
   unfolding onward
   onward-of m (some x) h = h
   onward-of m none h = enter-of (m .validating) _ (ending-of (m .validating)) _ (m .facts) _ (m .rest)
 
-  pub settle-of : (m : Machine C F S) (v : Bool) → OfWhere Only (settle join cap chunks reachable start after open′ view absorb loud close leaves m v)
+  pub settle-of : (m : Machine C F S) (v : Bool) → OfWhere Only (settle α m v)
   unfolding settle
   settle-of m true = onward-of m _ (follows (m .chunk) (m .states))
   settle-of m false = onward-of m none tt
 
-  pub settled-of : (m : Machine C F S) (q : List ℕ) → OfWhere Only (settled join cap chunks reachable start after open′ view absorb loud close leaves m q)
+  pub settled-of : (m : Machine C F S) (q : List ℕ) → OfWhere Only (settled α m q)
   unfolding settled
   settled-of m [] = settle-of m (m .validating)
   settled-of m (i ∷ q) = tt
 
-module _ {C F R S G : Type 0} (join : S → S → Res (Joined S)) (cap : ℕ) (chunks : List C) (reachable : C → Bool)
-    (start : C → R → List (Option S)) (after : C → List (Option S) → Option (ℕ × ℕ))
-    (open′ : R → F) (view : F → R) (absorb : F → G → F) (loud : F → Bool) (close : F → R)
-    (leaves : Bool → C → R → ℕ → S → Res (Effect S G))
+module _ {C F R S G : Type 0} (α : Analysis C F R S G)
     -- the numbers
-    (Only : ℕ → Type 0) (only-8 : Only 8) (joins : (s x : S) → OfRes Only (join s x))
-    (follows : (c : C) (st : List (Option S)) → OfPlace Only (after c st))
-    (rule : (v : Bool) (c : C) (r : R) (i : ℕ) (s : S) → OfRes Only (leaves v c r i s)) where
-  pub enter-only : (v : Bool) (end : F → List (List (Option S)) → Where C F R S) → ((f : F) (past : List (List (Option S))) → OfWhere Only (end f past))
-      → (n : ℕ) (f : F) (past : List (List (Option S))) (cs : List C)
-      → OfWhere Only (enter join cap chunks reachable start after open′ view absorb loud close leaves v end n f past cs)
-  enter-only = enter-of join cap chunks reachable start after open′ view absorb loud close leaves Only follows
-
-  seen-only : (m : Machine C F S) (i : ℕ) (r : Res (Seen F S)) → OfRes Only r
-      → OfWhere Only (onSeen join cap chunks reachable start after open′ view absorb loud close leaves m i r)
+    (Only : ℕ → Type 0) (only-8 : Only 8) (joins : (s x : S) → OfRes Only (α .join s x))
+    (follows : (c : C) (st : List (Option S)) → OfPlace Only (α .after c st))
+    (rule : (v : Bool) (c : C) (r : R) (i : ℕ) (s : S) → OfRes Only (α .leaves v c r i s)) where
+  seen-only : (m : Machine C F S) (i : ℕ) (r : Res (Seen F S)) → OfRes Only r → OfWhere Only (onSeen α m i r)
   unfolding onSeen
   seen-only m i (bad n) h = h
-  seen-only m i (ok r) h = settled-of join cap chunks reachable start after open′ view absorb loud close leaves Only follows _ (r .work .queue)
+  seen-only m i (ok r) h = settled-of α Only follows _ (r .work .queue)
 
-  pub takes-only : (m : Machine C F S) (q : List ℕ) → OfWhere Only (takes join cap chunks reachable start after open′ view absorb loud close leaves m q)
+  pub takes-only : (m : Machine C F S) (q : List ℕ) → OfWhere Only (takes α m q)
   unfolding takes visit
-  takes-only m [] = settle-of join cap chunks reachable start after open′ view absorb loud close leaves Only follows m (m .validating)
+  takes-only m [] = settle-of α Only follows m (m .validating)
   takes-only m (i ∷ q) =
       seen-only m i _
-      (visit-only Only only-8 join cap joins view _ _ (rule (m .validating) (m .chunk)) (m .facts) (m .states) q i (getD (m .states) i none))
+      (visit-only Only only-8 (α .join) (α .room) joins (α .view) _ _ (rule (m .validating) (m .chunk)) (m .facts) (m .states) q i (getD (m .states) i none))
 
   -- the limit too
   module _ (only-7 : Only 7) where
     next-only : (more : Machine C F S → Ran R S) → ((m : Machine C F S) → OfRan Only (more m)) → (steps : ℕ) (w : Where C F R S) → OfWhere Only w
-        → OfRan Only (onNext join cap chunks reachable start after open′ view absorb loud close leaves more steps w)
+        → OfRan Only (onNext more steps w)
     unfolding onNext
     next-only more h steps (due m) o = h m
     next-only more h steps (done x) o = tt
     next-only more h steps (stop x) o = o
 
-    run-only : (left steps : ℕ) (m : Machine C F S) → OfRan Only (run join cap chunks reachable start after open′ view absorb loud close leaves left steps m)
+    run-only : (left steps : ℕ) (m : Machine C F S) → OfRan Only (run α left steps m)
     unfolding run next
     run-only zero steps m = only-7
     run-only (suc left) steps m = next-only _ (λ n. run-only left (suc steps) n) (suc steps) _ (takes-only m (m .queue))
 
     -- THEOREM
-    pub check-only : (limit : ℕ) (r : R) → OfRan Only (check join cap chunks reachable start after open′ view absorb loud close leaves limit r)
+    pub check-only : (limit : ℕ) (r : R) → OfRan Only (check α limit r)
     unfolding check begun finish
-    check-only limit r = next-only _ (λ m. run-only limit 0 m) 0 _ (enter-only false _ (λ f past. tt) 0 (open′ r) [] chunks)
+    check-only limit r = next-only _ (λ m. run-only limit 0 m) 0 _ (enter-of α Only follows false _ (λ f past. tt) 0 (α .opened r) [] (α .chunks))

@@ -47,11 +47,12 @@ use Rattle.definition.specs.State.{State, Facts, Live, Gift, nothing, arguments
 use Rattle.definition.specs.Data.{sharedMask, slot, dataWidth, kindsIn, widthIn, privateCell, fresh, flowIn, readSlots, isBody}
 use Rattle.definition.specs.Outputs.{Visit, Setting, arg, instr, noCell, commonKinds, bitsMask, ifHas, negation, withPredicate, withOrigin, originAt, constantCell, fieldCell, nativeCell, at, replyShape, replyCell, constructedExtent, compositeCell, inspection, predicateOn, tested, statusMask, firstOutput, secondOutput, restOutput, madeFrom, outputs, output, setting}
 use Rattle.definition.specs.Ways.{narrowStack, isFrom, narrowed, along, forget, setLocals, outputList, kept, resetFirst, isReset, reset, after, onWay, leavingBy, leaving}
-use Rattle.definition.specs.Leaves.{Known, visitOf, noLine, lineAt, unless, heightFault, visited, leaves, always, givesBy, gives, joinAt, storedFlow, withFlows, writeFlow, writeMask, writeSlot, writeSlots, absorb, unionMasks, opened, closed, moved}
+use Rattle.definition.specs.Leaves.{Known, visitOf, noLine, lineAt, unless, heightFault, visited, leaves, always, givesBy, gives, joinAt, storedFlow, withFlows, writeFlow, writeMask, writeSlot, writeSlots, absorb, unionMasks, opened, closed}
 use Rattle.definition.specs.Wants.{unfit, isEntry}
 use Rattle.definition.specs.Wants.{returned as below}
-use Rattle.definition.specs.Start.{declaredParams, initMask, firstFacts, siteReply, replyIn, replies, firstReply, knownOf, filled, start, afterChunk}
+use Rattle.definition.specs.Start.{declaredParams, initMask, firstFacts, siteReply, replyIn, replies, firstReply, knownOf, filled, start}
 use Rattle.definition.specs.Start.{replyCell as wholeReply}
+use Rattle.definition.specs.Call.{analysisOf}
 
 -- any of these has it, so all do
 pub every : {A : Type 0} {P : A → Type 0} (xs : List A) → ((x : A) → P x) → All P xs
@@ -609,8 +610,7 @@ module _ (P : Cell → Type 0) (Q : Flow → Type 0) (M : Mask → Type 0) (W : 
 
     -- every visit keeps it, if what is read from any local has it
     pub keeps : (k : Known) (cap : ℕ) → ((l : ℕ) → From l) → P (k .reply) → ModuleHas (k .code)
-        → Keeps join cap (k .code .chunks) (λ c. c .reachable) start afterChunk opened (λ x. x .known) (absorb (k .code)) moved closed (leaves k)
-        StateHas FactsHave LiveHas GiftHas ChunkHas
+        → Keeps (analysisOf k cap) StateHas FactsHave LiveHas GiftHas ChunkHas
     unfolding join leaves
     keeps k cap from r m = record {
       joined = λ s x j e p q. state-joined _ s x j e p q;

@@ -13,13 +13,13 @@ use Rattle.machine_laws.proofs.All.{All, Opt}
 use Rattle.machine_laws.proofs.Carry.{check-keeps}
 use Rattle.definition.specs.Machine.{Final, accepted}
 use Rattle.definition.specs.Module.{Module, Chunk, Line, Site}
-use Rattle.definition.specs.State.{State, Facts, join}
+use Rattle.definition.specs.State.{State, Facts}
 use Rattle.definition.specs.Outputs.{Visit, outputs, originAt}
 use Rattle.definition.specs.Data.{privateCell}
 use Rattle.definition.specs.Ways.{outputList, leaving}
-use Rattle.definition.specs.Leaves.{Known, lineAt, visitOf, leaves, absorb, opened, closed, moved}
-use Rattle.definition.specs.Start.{firstFacts, knownOf, filled, start, afterChunk}
-use Rattle.definition.specs.Call.{runOf}
+use Rattle.definition.specs.Leaves.{Known, lineAt, visitOf}
+use Rattle.definition.specs.Start.{firstFacts, knownOf, filled}
+use Rattle.definition.specs.Call.{analysisOf, runOf}
 use Rattle.report_laws.specs.Names.{NamesLocal}
 use Rattle.report_laws.proofs.Cells.{FlowNaming, CellNaming, Sayable, Proper}
 use Rattle.report_laws.proofs.Kept.{flow-join, cell-join, flow-none, cell-fresh, cell-unit, cell-invalidated, cell-bare, flow-stored, cell-narrow, cell-predicate, cell-origin, local-at, receiver-negated, receiver-on, cell-construction, nowhere-local}
@@ -123,8 +123,7 @@ pub run-proper : (k : Known) (cap limit n : ℕ) (f : Facts) (x : Final Facts St
     → ProperFacts (x .facts) × All (All (Opt ProperState)) (x .states)
 unfolding runOf
 run-proper k cap limit n f x r p e =
-    let h = check-keeps join cap (k .code .chunks) (λ c. c .reachable) start afterChunk opened (λ y. y .known) (absorb (k .code)) moved closed (leaves k)
-    ProperState ProperFacts (LiveHas Proper (FlowNaming Sayable) AnyMask AnyWidth) (GiftHas Proper (FlowNaming Sayable) AnyMask AnyWidth)
+    let h = check-keeps (analysisOf k cap) ProperState ProperFacts (LiveHas Proper (FlowNaming Sayable) AnyMask AnyWidth) (GiftHas Proper (FlowNaming Sayable) AnyMask AnyWidth)
     (ChunkHas Proper (FlowNaming Sayable) AnyMask AnyWidth)
     (keeps Proper (FlowNaming Sayable) AnyMask AnyWidth (laws Sayable) k cap (λ l c q. cell-origin c _ q (local-at l)) r (any-module Sayable (k .code)))
     (any-module Sayable (k .code) .chunks) limit n f x p e in

@@ -12,23 +12,22 @@ use lib.ListN.{length, drop}
 use Rattle.answers.specs.declared.Refusal.{Refusal}
 use Rattle.definition.specs.Machine.{due, enter, finish, endRound, ending, onward, settle}
 use Rattle.definition.specs.Module.{moduleOf}
-use Rattle.definition.specs.State.{join}
-use Rattle.definition.specs.Leaves.{leaves, absorb, opened, closed, moved}
-use Rattle.definition.specs.Start.{start, afterChunk}
+use Rattle.definition.specs.Leaves.{opened, closed, moved}
+use Rattle.definition.specs.Start.{afterChunk}
 use Rattle.form_laws.specs.Good.{chunkNo, wordsOf}
 use Rattle.visit.specs.Held.{liveIn}
 use Rattle.run_state.specs.declared.Run.{Run}
-use Rattle.run_state.specs.Course.{statesIn, pastIn, machineIn, finalIn, roomIn, knownAs, Low, LowBefore, Between, Ended, FactsOnly}
+use Rattle.run_state.specs.Course.{statesIn, pastIn, machineIn, finalIn, roomIn, analysisIn, Low, LowBefore, Between, Ended, FactsOnly}
 use Rattle.rounds.specs.declared.entering.Settled.{Settled}
 use Rattle.rounds.specs.declared.entering.Settled.the-variants.{Due, Done, Stop}
 use Rattle.rounds.specs.entering.Entering.{whereIn, Goes, Opened}
 use Rattle.rounds.specs.entering.Reach.{NextReachable}
-use Rattle.rounds.proofs.entering.Reach.{past-more}
+use Rattle.rounds.proofs.entering.Reach.{past-more, enters-none}
 use Rattle.rounds.specs.entering.Began.{Began}
 use Rattle.rounds.specs.inspecting.Fault.{Inspected}
-use Rattle.rounds.proofs.entering.Rounds.{enters-due, enters-end, low-reached}
+use Rattle.rounds.proofs.entering.Rounds.{enters-due, low-reached}
 use Rattle.rounds.specs.Settling.{Onward}
-use Rattle.rounds.specs.Ends.{EndsAs, GoesOn, endingIn, onwardIn}
+use Rattle.rounds.specs.Ends.{EndsAs, GoesOn}
 
 -- ---- the end of a pass
 pub ends-done : (s ws : List ℕ) (r : Run) → Ended s ws → r .validating ≡ true → EndsAs s ws ws r Done
@@ -49,9 +48,8 @@ low-after s ws r x k l e = below-more (λ (j : ℕ). chunkNo (moduleOf s) j .rea
 
 module _ (s ws : List ℕ) (r : Run) (x : Between s ws r) (n : ℕ) (y : NextReachable s (r .chunk + 1) n) where
   -- the states of this chunk are the last of those before the next
-  goes-from : onwardIn s (roomIn s ws) (machineIn s ws r) none
-      ≡ enter join (roomIn s ws) (knownAs s .code .chunks) (λ c. c .reachable) start afterChunk opened (λ x. x .known) (absorb (knownAs s .code)) moved closed
-      (leaves (knownAs s)) (r .validating) (endingIn s (roomIn s ws) (r .validating)) (r .chunk + 1) (liveIn s ws (r .changed)) (pastIn s ws (r .chunk + 1))
+  goes-from : onward (analysisIn s ws) (machineIn s ws r) none
+      ≡ enter (analysisIn s ws) (r .validating) (ending (analysisIn s ws) (r .validating)) (r .chunk + 1) (liveIn s ws (r .changed)) (pastIn s ws (r .chunk + 1))
       (drop (r .chunk + 1) (moduleOf s .chunks))
   unfolding onward machineIn
   goes-from = rw (add-one (r .chunk), past-more s ws (r .chunk), x .reachable)
@@ -60,7 +58,7 @@ module _ (s ws : List ℕ) (r : Run) (x : Between s ws r) (n : ℕ) (y : NextRea
   unfolding GoesOn whereIn Goes
   goes-due v q h b = (
     ap due (b .machine)
-        ∙ sym (enters-due s ws (roomIn s ws) (r .validating) (endingIn s (roomIn s ws) (r .validating)) (r .changed) (r .chunk + 1) n y h)
+        ∙ sym (enters-due s ws (r .validating) (ending (analysisIn s ws) (r .validating)) (r .changed) (r .chunk + 1) n y h)
         ∙ sym goes-from,
     (b .between, b .due, b .same-steps),
     b .long,
@@ -70,7 +68,7 @@ module _ (s ws : List ℕ) (r : Run) (x : Between s ws r) (n : ℕ) (y : NextRea
   unfolding GoesOn EndsAs
   goes-end v o h (w, g, l) = (
     w
-        ∙ sym (enters-end s ws (roomIn s ws) (r .validating) (endingIn s (roomIn s ws) (r .validating)) (liveIn s ws (r .changed)) (r .chunk + 1) n y h)
+        ∙ sym (enters-none s ws (r .validating) (ending (analysisIn s ws) (r .validating)) (liveIn s ws (r .changed)) (r .chunk + 1) n y h)
         ∙ sym goes-from,
     g,
     l,

@@ -7,11 +7,12 @@ use mathlib.Core.List.{List, []}
 use lib.ListN.{length, getD, drop}
 use Rattle.ring.specs.declared.Queue.{Queue}
 use Rattle.ring.specs.Ring.{QueueReady, capOf, entryAt, queueOf}
-use Rattle.definition.specs.Machine.{Work, Seen, Machine, Final}
+use Rattle.definition.specs.Machine.{Work, Seen, Machine, Final, Analysis}
 use Rattle.definition.specs.Module.{Chunk, row, moduleOf}
-use Rattle.definition.specs.State.{State, Facts, Live}
+use Rattle.definition.specs.State.{State, Facts, Live, Gift}
 use Rattle.definition.specs.Leaves.{Known}
 use Rattle.definition.specs.Start.{admitted, firstFacts, knownOf}
+use Rattle.definition.specs.Call.{analysisOf}
 use Rattle.form_laws.specs.Good.{chunkNo, rowCells, wordsOf}
 use Rattle.layout.specs.Layout.{rowsAt, rowAt}
 use Rattle.layout.specs.Indexed.{Indexed}
@@ -63,6 +64,10 @@ roomIn s ws = length ws - wordsOf (moduleOf s)
 -- what a run knows from its start on
 abbrev pub knownAs : List ℕ → Known
 knownAs s = knownOf (moduleOf s) (firstFacts (moduleOf s))
+
+-- the definition's analysis, with the room that the workspace leaves
+abbrev pub analysisIn : List ℕ → List ℕ → Analysis Chunk Live Facts State Gift
+analysisIn s ws = analysisOf (knownAs s) (roomIn s ws)
 
 -- ---- what holds between two takings
 -- no recorded stack of the chunk n is higher than D (the first word of a row is its height and one)

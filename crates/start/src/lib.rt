@@ -30,7 +30,7 @@ ghost use Rattle.definition.specs.Module.{moduleOf, siteOf};
 ghost use Rattle.definition.specs.Start.{admitted, declaredParams, firstFacts, siteReply, replyIn, firstReply, replyCell};
 ghost use Rattle.form_laws.specs.Good.{chunkNo, wordsOf};
 ghost use Rattle.layout.specs.Indexed.{Indexed, Fresh, tablesOf, chunkAt};
-ghost use Rattle.start.specs.Starting.{StartedAs};
+ghost use Rattle.start.specs.Starting.{SitesSuspend, StartedAs, RebuiltAs};
 ghost use Rattle.start.specs.Inputs.{InputsIn, ChunkIn, ChunksDeclared};
 ghost use Rattle.start.specs.Settled.{ended};
 
@@ -160,6 +160,22 @@ fn bounded(t: Tables, size: Size) -> Started
     }
 }
 
+// What a run knows from its start on, worked out from the description: the reply, and which chunks suspend. The facts of a run stay.
+fn rebuild(s: &[u8], ws: &mut [u32], t: Tables) -> Started
+    requires { ⌜ Indexed (now s) (now ws) ⌝ }
+    requires { ⌜ SitesSuspend (now s) (now ws) ⌝ }
+    requires { ⌜ wordsOf (moduleOf (now s)) < length (now ws) ⌝ }
+    requires { ⌜ t ≡ tablesOf (now s) ⌝ }
+    requires { ⌜ admitted (moduleOf (now s)) (moduleOf (now s) .chunks) ≡ none ⌝ }
+    ensures { λ r. ⌜ RebuiltAs (now (s .entry)) (now (ws .entry)) (now (ws .exit)) r ⌝ }
+{
+    let reply = reply_of(s, ws, t);
+    store(ws, 0, reply);
+    suspend_all(s, ws, t);
+    let f = reply.flow;
+    bounded(t, f.maximum())
+}
+
 fn prepare(s: &[u8], ws: &mut [u32], t: Tables) -> Started
     requires { ⌜ Indexed (now s) (now ws) ⌝ }
     requires { ⌜ Fresh (now s) (now ws) ⌝ }
@@ -169,11 +185,7 @@ fn prepare(s: &[u8], ws: &mut [u32], t: Tables) -> Started
     ensures { λ r. ⌜ StartedAs (now (s .entry)) (now (ws .entry)) (now (ws .exit)) r ⌝ }
 {
     declare(s, ws, t);
-    let reply = reply_of(s, ws, t);
-    store(ws, 0, reply);
-    suspend_all(s, ws, t);
-    let f = reply.flow;
-    bounded(t, f.maximum())
+    rebuild(s, ws, t)
 }
 
 // The facts before the first round, or why there is none.
@@ -189,4 +201,19 @@ pub fn start(s: &[u8], ws: &mut [u32], t: Tables) -> Started
         return Started::Refused(refusal);
     }
     prepare(s, ws, t)
+}
+
+// What a run that is taken up again knows, or why there can be none: 9 to 12. Its facts stay as they are.
+pub fn restart(s: &[u8], ws: &mut [u32], t: Tables) -> Started
+    requires { ⌜ Indexed (now s) (now ws) ⌝ }
+    requires { ⌜ SitesSuspend (now s) (now ws) ⌝ }
+    requires { ⌜ wordsOf (moduleOf (now s)) < length (now ws) ⌝ }
+    requires { ⌜ t ≡ tablesOf (now s) ⌝ }
+    ensures { λ r. ⌜ RebuiltAs (now (s .entry)) (now (ws .entry)) (now (ws .exit)) r ⌝ }
+{
+    let found = admitted(s, ws, t);
+    if found.number != 0 {
+        return Started::Refused(found);
+    }
+    rebuild(s, ws, t)
 }

@@ -18,7 +18,7 @@ use Rattle.definition.specs.Start.{knownOf}
 use Rattle.definition.specs.State.{Live, Gift, join}
 use Rattle.definition.specs.Outputs.{instr}
 use Rattle.definition.specs.Ways.{after}
-use Rattle.definition.specs.Leaves.{Known, gives, absorb, leaves, visitOf}
+use Rattle.definition.specs.Leaves.{gives, absorb, leaves, visitOf}
 use Rattle.form_laws.specs.Good.{chunkNo, wordsOf}
 use Rattle.layout.specs.declared.Chunk.{Chunk}
 use Rattle.layout.specs.declared.Tables.{Tables}
@@ -32,7 +32,7 @@ use Rattle.visit.specs.declared.RowVisit.{RowVisit}
 use Rattle.visit.specs.Held.{liveIn, Looking, visitIn}
 use Rattle.visit.proofs.Visits.{below-long}
 use Rattle.run_state.specs.declared.Run.{Run}
-use Rattle.run_state.specs.Course.{statesIn, workIn, seenIn, roomIn, knownAs, Low, Queued, Between, FactsOnly}
+use Rattle.run_state.specs.Course.{statesIn, workIn, seenIn, roomIn, knownAs, analysisIn, Low, Queued, Between, FactsOnly}
 use Rattle.run_state.proofs.Rows.{states-at}
 use Rattle.run_state.proofs.Stays.{facts-low}
 use Rattle.run_state.proofs.Queues.{queue-at, queued-kept}
@@ -46,7 +46,7 @@ use Rattle.step.specs.declared.Step.{Step}
 use Rattle.step.specs.declared.Step.the-variants.{Go, Stop}
 use Rattle.step.specs.Alike.{Alike}
 use Rattle.step.proofs.Alike.{after-high}
-use Rattle.step.specs.Taking.{addsOf, takingOf, faultOf}
+use Rattle.step.specs.Taking.{takingOf, faultOf}
 use Rattle.step.proofs.Taking.{taking-faulty}
 use Rattle.step.proofs.Frames.{looking-facts}
 use Rattle.step.proofs.Taken.{stops, goes, still-between, past-stays, long-stays}
@@ -54,13 +54,14 @@ use Rattle.step.proofs.Faults.{faultless}
 use Rattle.step.specs.Took.{Took}
 
 -- ---- only the rounds add to the facts
-pub adds-none : (k : Known) (cap : ℕ) (b : Bool) (f : Live) (g : Gift) → b ≡ true → f ≡ addsOf k cap b f g
-unfolding adds
-adds-none k cap b f g e = ap (λ (c : Bool). addsOf k cap c f g) (sym e)
+module _ (s ws : List ℕ) (b : Bool) (f : Live) (g : Gift) where
+  pub adds-none : b ≡ true → f ≡ adds (analysisIn s ws) b f g
+  unfolding adds
+  adds-none e = ap (λ (c : Bool). adds (analysisIn s ws) c f g) (sym e)
 
-pub adds-all : (k : Known) (cap : ℕ) (b : Bool) (f : Live) (g : Gift) → b ≡ false → absorb (k .code) f g ≡ addsOf k cap b f g
-unfolding adds
-adds-all k cap b f g e = ap (λ (c : Bool). addsOf k cap c f g) (sym e)
+  pub adds-all : b ≡ false → absorb (moduleOf s) f g ≡ adds (analysisIn s ws) b f g
+  unfolding adds knownOf
+  adds-all e = ap (λ (c : Bool). adds (analysisIn s ws) c f g) (sym e)
 
 pub nothing-written : (s ws : List ℕ) → FactsOnly s ws ws
 nothing-written s ws = record { steady = steady-refl (moduleOf s) ws; front = λ j l. refl; rows = λ n i k h l o. refl; queue = λ j l. refl }
@@ -99,7 +100,7 @@ module _ (s ws : List ℕ) (r : Run) (q : Queue) (i : ℕ) (between : Between s 
   pub took-dropped : (x : Run) → x ≡ record { validating = r .validating; chunk = r .chunk; queue = q; steps = r .steps + 1; changed = r .changed } → Took s ws ws r q i (Go x)
   unfolding Took takingOf visit visitAt seenIn workIn
   took-dropped x p = rw p (
-    ap (visitAt join (roomIn s ws) (λ (y : Live). y .known) (addsOf (knownAs s) (roomIn s ws) (r .validating)) (leaves (knownAs s) (r .validating) (chunkNo (moduleOf s) (r .chunk))) (liveIn s ws (r .changed)) (statesIn s ws (r .chunk)) (queueOf ws (wordsOf (moduleOf s)) q) i) none-there,
+    ap (visitAt join (roomIn s ws) (λ (y : Live). y .known) (adds (analysisIn s ws) (r .validating)) (leaves (knownAs s) (r .validating) (chunkNo (moduleOf s) (r .chunk))) (liveIn s ws (r .changed)) (statesIn s ws (r .chunk)) (queueOf ws (wordsOf (moduleOf s)) q) i) none-there,
     record {
       prepared = between .prepared;
       chunk = between .chunk;
@@ -169,7 +170,7 @@ module _ (s ws : List ℕ) (r : Run) (v : RowVisit) (q : Queue) (between : Betwe
       took-stopped u n p = stop-by u n (stops s ws w u r v q ch l between look same e alike fine f n p)
 
       pub took-on : (u : List ℕ) (p : Queue) (changed : Bool)
-          → liveIn s w changed ≡ addsOf (knownAs s) (roomIn s ws) (r .validating) (liveIn s ws (r .changed)) (gives (visitIn s ws v))
+          → liveIn s w changed ≡ adds (analysisIn s ws) (r .validating) (liveIn s ws (r .changed)) (gives (visitIn s ws v))
           → Passed s w u v q (waysIn w ch v l) (On p)
           → Took s ws u r q (v .at) (Go (record { validating = r .validating; chunk = r .chunk; queue = p; steps = r .steps + 1; changed = changed }))
       unfolding Passed Took
@@ -182,10 +183,6 @@ module _ (s ws : List ℕ) (r : Run) (v : RowVisit) (q : Queue) (between : Betwe
         past-stays s ws w u r v q ch l between look same e alike fine f p changed live put only low queued,
         long-stays s ws w u r v q ch l between look same e alike fine f p changed live put only low queued,
       )
-
-pub adds-here : (s : List ℕ) (cap : ℕ) (b : Bool) (f : Live) (g : Gift) → b ≡ false → absorb (moduleOf s) f g ≡ addsOf (knownAs s) cap b f g
-unfolding adds knownOf
-adds-here s cap b f g e = adds-all (knownAs s) cap b f g e
 
 -- ---- the entry that is due, found in the words
 base-is : (s : List ℕ) (t : Tables) → t ≡ tablesOf s → t .«queue_at» ≡ wordsOf (moduleOf s)

@@ -7,7 +7,7 @@ use mathlib.Core.List.{List, []}
 use lib.ListN.{length}
 use Rattle.ring.specs.declared.Queue.{Queue}
 use Rattle.definition.specs.Res.{ok, bad}
-use Rattle.definition.specs.Machine.{puts}
+use Rattle.definition.specs.Machine.{puts, adds}
 use Rattle.definition.specs.Module.{moduleOf}
 use Rattle.definition.specs.State.{join}
 use Rattle.definition.specs.Ways.{leaving}
@@ -19,14 +19,14 @@ use Rattle.row_join.specs.declared.joining.Leaving.{Leaving}
 use Rattle.visit.specs.declared.RowVisit.{RowVisit}
 use Rattle.visit.specs.Held.{liveIn, Looking, visitIn}
 use Rattle.run_state.specs.declared.Run.{Run}
-use Rattle.run_state.specs.Course.{statesIn, pastIn, workIn, seenIn, roomIn, knownAs, Low, LowBefore, Queued, Between, RowsOnly, FactsOnly}
+use Rattle.run_state.specs.Course.{statesIn, pastIn, workIn, seenIn, roomIn, analysisIn, Low, LowBefore, Queued, Between, RowsOnly, FactsOnly}
 use Rattle.run_state.proofs.Rows.{row-same, past-kept, low-before-kept}
 use Rattle.run_state.proofs.Stays.{rows-live, rows-prepared, facts-prepared, facts-states, facts-low}
 use Rattle.run_state.proofs.Queues.{queue-kept}
 use Rattle.propagate.specs.Passing.{waysIn}
 use Rattle.step.specs.Alike.{Alike}
 use Rattle.step.proofs.Alike.{ways-alike}
-use Rattle.step.specs.Taking.{addsOf, takingOf, faultOf}
+use Rattle.step.specs.Taking.{takingOf, faultOf}
 use Rattle.step.proofs.Taking.{taking-stops, taking-goes}
 use Rattle.step.proofs.Frames.{looking-facts, alike-facts}
 
@@ -64,7 +64,7 @@ module _ (s ws w u : List ℕ) (r : Run) (v : RowVisit) (q : Queue) (ch : Chunk)
   pub stops : (n : ℕ) → puts join (roomIn s w) (workIn s w (v .chunk) q) (waysIn w ch v l) ≡ bad n → takingOf s ws r q (v .at) ≡ bad n
   stops n p = taking-stops s ws r v q look same (between .prepared .known) fine n (sym puts-same ∙ p)
 
-  module _ (p : Queue) (changed : Bool) (live : liveIn s w changed ≡ addsOf (knownAs s) (roomIn s ws) (r .validating) (liveIn s ws (r .changed)) (gives (visitIn s ws v)))
+  module _ (p : Queue) (changed : Bool) (live : liveIn s w changed ≡ adds (analysisIn s ws) (r .validating) (liveIn s ws (r .changed)) (gives (visitIn s ws v)))
       (put : puts join (roomIn s w) (workIn s w (v .chunk) q) (waysIn w ch v l) ≡ ok (workIn s u (v .chunk) p))
       (o : RowsOnly s (v .chunk) w u) (low : Low s u (v .chunk)) (queued : Queued s u (v .chunk) p) where
     pub goes : (steps : ℕ) → takingOf s ws r q (v .at) ≡ ok (seenIn s u (record { validating = r .validating; chunk = r .chunk; queue = p; steps = steps; changed = changed }))

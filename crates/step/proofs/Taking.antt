@@ -1,15 +1,15 @@
 -- One taking by what it puts, and by what refuses it.
-use Prim.Native.Nat.{ℕ, zero, suc, _+_}
+use Prim.Native.Nat.{ℕ, zero, suc}
 use native.Mathlib.Omega.{arith}
 use mathlib.Core.Path.{_≡_, refl, sym, ap, _∙_}
 use mathlib.Core.Bool.{Bool, cond}
 use mathlib.Core.Option.{none, some}
 use mathlib.Core.List.{List}
-use lib.ListN.{length, getD}
+use lib.ListN.{getD}
 use Rattle.ring.specs.declared.Queue.{Queue}
 use Rattle.ring.specs.Ring.{queueOf}
 use Rattle.definition.specs.Res.{Res, ok, bad, bind}
-use Rattle.definition.specs.Machine.{Effect, Work, Seen, puts, visit, visitAt}
+use Rattle.definition.specs.Machine.{Effect, Work, Seen, puts, visit, visitAt, adds}
 use Rattle.definition.specs.Module.{moduleOf}
 use Rattle.definition.specs.State.{State, Live, Gift, join}
 use Rattle.definition.specs.Outputs.{Visit}
@@ -22,9 +22,9 @@ use Rattle.row_join.specs.joining.Leave.{stateBy, stateIn}
 use Rattle.visit.specs.declared.RowVisit.{RowVisit}
 use Rattle.visit.specs.Held.{liveIn, knownIn, Looking, stateOf, visitIn}
 use Rattle.run_state.specs.declared.Run.{Run}
-use Rattle.run_state.specs.Course.{statesIn, workIn, roomIn, knownAs}
+use Rattle.run_state.specs.Course.{statesIn, workIn, roomIn, knownAs, analysisIn}
 use Rattle.run_state.proofs.Rows.{states-at}
-use Rattle.step.specs.Taking.{addsOf, faultOf, first, takingOf}
+use Rattle.step.specs.Taking.{faultOf, first, takingOf}
 
 unless-first : {A : Type 0} (a b c : ℕ) (r : Res A) → unless a (unless b (unless c r)) ≡ unless (first a (first b c)) r
 unless-first zero zero c r = refl
@@ -63,18 +63,18 @@ module _ (s ws : List ℕ) (r : Run) (v : RowVisit) (q : Queue) (look : Looking 
       ∙ visited-by (r .validating) visitHere
 
   abbrev onPut : Res (Work State) → Res (Seen Live State)
-  onPut w = bind w (λ w. ok (record { facts = addsOf (knownAs s) (roomIn s ws) (r .validating) factsHere (gives visitHere); work = w }))
+  onPut w = bind w (λ w. ok (record { facts = adds (analysisIn s ws) (r .validating) factsHere (gives visitHere); work = w }))
 
   taking-is : takingOf s ws r q (v .at)
       ≡ bind (unless (faultOf (r .validating) visitHere) (ok (effectOf visitHere))) (λ e.
       bind (puts join (roomIn s ws) (workIn s ws (v .chunk) q) (e .ways)) (λ w.
-      ok (record { facts = addsOf (knownAs s) (roomIn s ws) (r .validating) factsHere (e .gives); work = w })))
+      ok (record { facts = adds (analysisIn s ws) (r .validating) factsHere (e .gives); work = w })))
   unfolding takingOf visit visitAt workIn
   taking-is =
-      ap (visitAt join (roomIn s ws) (λ (y : Live). y .known) (addsOf (knownAs s) (roomIn s ws) (r .validating)) (leaves (knownAs s) (r .validating) (chunkNo (moduleOf s) (r .chunk))) factsHere (statesIn s ws (r .chunk)) (queueOf ws (wordsOf (moduleOf s)) q) (v .at)) state-there
+      ap (visitAt join (roomIn s ws) (λ (y : Live). y .known) (adds (analysisIn s ws) (r .validating)) (leaves (knownAs s) (r .validating) (chunkNo (moduleOf s) (r .chunk))) factsHere (statesIn s ws (r .chunk)) (queueOf ws (wordsOf (moduleOf s)) q) (v .at)) state-there
       ∙ (λ i. bind (leaves-here i) (λ e.
       bind (puts join (roomIn s ws) (record { states = statesIn s ws (sym same i); queue = queueOf ws (wordsOf (moduleOf s)) q }) (e .ways)) (λ w.
-      ok (record { facts = addsOf (knownAs s) (roomIn s ws) (r .validating) factsHere (e .gives); work = w }))))
+      ok (record { facts = adds (analysisIn s ws) (r .validating) factsHere (e .gives); work = w }))))
 
   -- by the number that refuses it, and by what the ways put
   taking-by : (n : ℕ) → faultOf (r .validating) visitHere ≡ n
@@ -91,5 +91,5 @@ module _ (s ws : List ℕ) (r : Run) (v : RowVisit) (q : Queue) (look : Looking 
     taking-stops n e = taking-by 0 fine ∙ ap onPut e
 
     pub taking-goes : (w : Work State) → puts join (roomIn s ws) (workIn s ws (v .chunk) q) (leaving visitHere) ≡ ok w
-        → takingOf s ws r q (v .at) ≡ ok (record { facts = addsOf (knownAs s) (roomIn s ws) (r .validating) (liveIn s ws (r .changed)) (gives (visitIn s ws v)); work = w })
+        → takingOf s ws r q (v .at) ≡ ok (record { facts = adds (analysisIn s ws) (r .validating) (liveIn s ws (r .changed)) (gives (visitIn s ws v)); work = w })
     taking-goes w e = taking-by 0 fine ∙ ap onPut e

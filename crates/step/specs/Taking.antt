@@ -8,27 +8,22 @@ use Rattle.ring.specs.Ring.{queueOf}
 use Rattle.definition.specs.Res.{Res}
 use Rattle.definition.specs.Machine.{Seen, visit, adds}
 use Rattle.definition.specs.Module.{moduleOf}
-use Rattle.definition.specs.State.{State, Live, Gift, join}
+use Rattle.definition.specs.State.{State, Live, join}
 use Rattle.definition.specs.Outputs.{Visit}
 use Rattle.definition.specs.Wants.{unfit}
-use Rattle.definition.specs.Leaves.{Known, always, heightFault, leaves, absorb, opened, closed, moved}
-use Rattle.definition.specs.Start.{start, afterChunk}
+use Rattle.definition.specs.Leaves.{always, heightFault, leaves}
 use Rattle.form_laws.specs.Good.{chunkNo, wordsOf}
 use Rattle.layout.specs.declared.Tables.{Tables}
 use Rattle.layout.specs.declared.Chunk.{Chunk}
 use Rattle.visit.specs.declared.RowVisit.{RowVisit}
 use Rattle.visit.specs.Held.{liveIn, Visiting}
 use Rattle.run_state.specs.declared.Run.{Run}
-use Rattle.run_state.specs.Course.{statesIn, roomIn, knownAs, Queued, Between}
-
--- only the rounds add to the facts
-abbrev pub addsOf : Known → ℕ → Bool → Live → Gift → Live
-addsOf k cap = adds join cap (k .code .chunks) (λ c. c .reachable) start afterChunk opened (λ x. x .known) (absorb (k .code)) moved closed (leaves k)
+use Rattle.run_state.specs.Course.{statesIn, roomIn, knownAs, analysisIn, Queued, Between}
 
 -- the machine's visit of the instruction i, the queue q without its entry
 unfoldable pub takingOf : List ℕ → List ℕ → Run → Queue → ℕ → Res (Seen Live State)
 takingOf s ws r q i =
-    visit join (roomIn s ws) (λ (x : Live). x .known) (addsOf (knownAs s) (roomIn s ws) (r .validating))
+    visit join (roomIn s ws) (λ (x : Live). x .known) (adds (analysisIn s ws) (r .validating))
     (leaves (knownAs s) (r .validating) (chunkNo (moduleOf s) (r .chunk)))
     (liveIn s ws (r .changed)) (statesIn s ws (r .chunk)) (queueOf ws (wordsOf (moduleOf s)) q) i
 

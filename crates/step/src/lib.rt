@@ -25,6 +25,7 @@ ghost use mathlib.Core.Path.{_≡_};
 ghost use mathlib.Core.Bool.{cond};
 ghost use Prim.Native.Nat.{_+_, _<_, _≤_, _^_};
 ghost use Rattle.ring.specs.Ring.{dueOf, poppedOf};
+ghost use Rattle.definition.specs.Machine.{adds};
 ghost use Rattle.definition.specs.Module.{moduleOf};
 ghost use Rattle.definition.specs.Ways.{isReset};
 ghost use Rattle.definition.specs.Leaves.{always, gives};
@@ -32,9 +33,9 @@ ghost use Rattle.definition.specs.Wants.{unfit};
 ghost use Rattle.form_laws.specs.Good.{wordsOf};
 ghost use Rattle.layout.specs.Indexed.{tablesOf};
 ghost use Rattle.visit.specs.Held.{liveIn, Visiting, visitIn};
-ghost use Rattle.run_state.specs.Course.{roomIn, knownAs, Between, FactsOnly};
+ghost use Rattle.run_state.specs.Course.{analysisIn, Between, FactsOnly};
 ghost use Rattle.step.specs.Alike.{Alike};
-ghost use Rattle.step.specs.Taking.{addsOf, VisitDue, faultOf};
+ghost use Rattle.step.specs.Taking.{VisitDue, faultOf};
 ghost use Rattle.step.specs.Took.{Took};
 
 pub enum Step {
@@ -115,7 +116,7 @@ fn give_in_rounds(s: &[u8], ws: &mut [u32], t: Tables, ch: Chunk, v: RowVisit, r
     ensures { λ b. ⌜
         FactsOnly (now (s .entry)) (now (ws .entry)) (now (ws .exit))
         × (liveIn (now (s .entry)) (now (ws .exit)) b
-        ≡ addsOf (knownAs (now (s .entry))) (roomIn (now (s .entry)) (now (ws .entry))) (r .validating)
+        ≡ adds (analysisIn (now (s .entry)) (now (ws .entry))) (r .validating)
         (liveIn (now (s .entry)) (now (ws .entry)) (r .changed)) (gives (visitIn (now (s .entry)) (now (ws .entry)) v)))
         ⌝ }
 {

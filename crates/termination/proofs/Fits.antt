@@ -1,6 +1,6 @@
 -- The definition's states and facts stay within bounds: small cells, stacks and locals of bounded length, results and flows as many as at the
 -- start; a visit gives only to places that are there.
-use Prim.Native.Nat.{ℕ, zero, suc, _+_, _-_, _<_, _≤_}
+use Prim.Native.Nat.{ℕ, zero, suc, _+_, _<_, _≤_}
 use native.Mathlib.Omega.{arith}
 use mathlib.Core.Path.{_≡_, refl, sym, _∙_, ap}
 use mathlib.Core.Bool.{Bool, true, false, cond, _||_}
@@ -30,8 +30,9 @@ use Rattle.definition.specs.Outputs.{Visit, Setting, instr, noCell, outputs, se
 use Rattle.definition.specs.Ways.{narrowed, along, setLocals, kept, resetFirst, isReset, reset, after, onWay, leavingBy, leaving}
 use Rattle.definition.specs.Wants.{unfit, isEntry}
 use Rattle.definition.specs.Wants.{returned as below}
-use Rattle.definition.specs.Leaves.{Known, visitOf, heightFault, visited, leaves, always, hopeless, nothingBelow, givesBy, gives, joinAt, writeSlot, writeSlots, absorb, opened, closed, moved}
-use Rattle.definition.specs.Start.{filled, start, afterChunk}
+use Rattle.definition.specs.Leaves.{Known, visitOf, heightFault, visited, leaves, always, hopeless, nothingBelow, givesBy, gives, joinAt, writeSlot, writeSlots, absorb, opened, closed}
+use Rattle.definition.specs.Start.{filled, start}
+use Rattle.definition.specs.Call.{analysisOf}
 use Rattle.report_laws.proofs.Carried.{unless-use, ModuleHas, ChunkHas, StateHas, FactsHave, LiveHas, GiftHas}
 use Rattle.report_laws.proofs.Carried.{keeps as all-keep}
 use Rattle.termination.proofs.Small.{SmallMask, SmallWidth, SmallFlow, SmallCell, small-from, small-laws}
@@ -232,9 +233,7 @@ module _ (most height width results slots : ℕ) where
 
   -- THEOREM: every visit keeps the bounds
   pub fits-keep : (whole : 4294967295 ≤ most) (k : Known) (cap : ℕ) → SmallCell most (k .reply) → ModuleHas (SmallCell most) (SmallFlow most) SmallMask (SmallWidth most) (k .code)
-      → k .code .slots ≡ slots
-      → Keeps join cap (k .code .chunks) (λ c. c .reachable) start afterChunk opened (λ x. x .known) (absorb (k .code)) moved closed (leaves k)
-      StateFits FactsFit LiveFits GiftFits ChunkFits
+      → k .code .slots ≡ slots → Keeps (analysisOf k cap) StateFits FactsFit LiveFits GiftFits ChunkFits
   unfolding join leaves opened closed visitOf
   fits-keep whole k cap r m z =
       let all = all-keep (SmallCell most) (SmallFlow most) SmallMask (SmallWidth most) (small-laws most whole) k cap (small-from most whole) r m in

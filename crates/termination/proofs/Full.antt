@@ -14,13 +14,13 @@ use Rattle.answers.specs.declared.Answer.the-variants.{Refused}
 use Rattle.answers.specs.Answers.{refusal}
 use Rattle.definition.specs.declared.Form.the-variants.{Fine}
 use Rattle.definition.specs.Res.{Res, ok, bad, bind}
-use Rattle.definition.specs.Machine.{Joined, Effect, Work, Seen, Machine, Where, due, done, stop, Stop, refused, halt, put, puts, visitAt, visit, adds, finish, onSeen, takes, next, begun, check}
-use Rattle.definition.specs.Module.{Module, Chunk, moduleOf}
-use Rattle.definition.specs.State.{State, Facts, join}
-use Rattle.definition.specs.Leaves.{Known, leaves, absorb, opened, closed, moved}
+use Rattle.definition.specs.Machine.{Joined, Effect, Work, Seen, Machine, Where, due, done, stop, Stop, Analysis, refused, halt, put, puts, visitAt, visit, adds, finish, onSeen, takes, next, begun, check}
+use Rattle.definition.specs.Module.{Module, moduleOf}
+use Rattle.definition.specs.State.{Facts, join}
+use Rattle.definition.specs.Leaves.{Known}
 use Rattle.definition.specs.Form.{formOf}
-use Rattle.definition.specs.Start.{firstFacts, knownOf, start, afterChunk}
-use Rattle.definition.specs.Call.{runOf, call}
+use Rattle.definition.specs.Start.{firstFacts, knownOf}
+use Rattle.definition.specs.Call.{analysisOf, runOf, call}
 use Rattle.machine_laws.proofs.Bind.{bad≢ok, bad-inj, ok-inj, bind-use}
 use Rattle.machine_laws.specs.Takings.{Due, after-takings, Counted, Spent}
 use Rattle.machine_laws.specs.Full.{Full}
@@ -86,41 +86,19 @@ module _ {S : Type 0} (join : S → S → Res (Joined S)) (cap : ℕ) (joins : (
   full-puts w v (b ∷ before) o behind e f = bind-use (put join cap w b) _ e λ u p q. rw p (full-puts u v before o behind q f)
 
 -- ---- a run
-module _ {C F R S G : Type 0}
-    (join : S → S → Res (Joined S)) (cap : ℕ) (chunks : List C) (reachable : C → Bool)
-    (start : C → R → List (Option S)) (after : C → List (Option S) → Option (ℕ × ℕ))
-    (open′ : R → F) (view : F → R) (absorb : F → G → F) (moved : F → Bool) (close : F → R)
-    (leaves : Bool → C → R → ℕ → S → Res (Effect S G)) where
-  abbrev Next : Machine C F S → Where C F R S
-  Next = next join cap chunks reachable start after open′ view absorb moved close leaves
-
-  abbrev Begun : R → Where C F R S
-  Begun = begun join cap chunks reachable start after open′ view absorb moved close leaves
-
-  abbrev After : ℕ → Where C F R S → Where C F R S
-  After = after-takings join cap chunks reachable start after open′ view absorb moved close leaves
-
-  abbrev FullHere : Machine C F S → Type 0
-  FullHere = FullAt join cap chunks reachable start after open′ view absorb moved close leaves
-
-  abbrev FilledBy : ℕ → R → Refusal → Type 0
-  FilledBy = Filled join cap chunks reachable start after open′ view absorb moved close leaves
-
-  abbrev Adds : Bool → F → G → F
-  Adds = adds join cap chunks reachable start after open′ view absorb moved close leaves
-
+module _ {C F R S G : Type 0} (α : Analysis C F R S G) where
   -- one more taking
-  after-next : (n : ℕ) (w : Where C F R S) (m : Machine C F S) → After n w ≡ due m → After (suc n) w ≡ Next m
+  after-next : (n : ℕ) (w : Where C F R S) (m : Machine C F S) → after-takings α n w ≡ due m → after-takings α (suc n) w ≡ next α m
   unfolding after-takings
-  after-next zero (due x) m e = ap (After 1) e
+  after-next zero (due x) m e = ap (after-takings α 1) e
   after-next zero (done x) m e = absurd (done≢due e)
   after-next zero (stop x) m e = absurd (stop≢due e)
-  after-next (suc n) (due x) m e = after-next n (Next x) m e
+  after-next (suc n) (due x) m e = after-next n (next α x) m e
   after-next (suc n) (done x) m e = absurd (done≢due e)
   after-next (suc n) (stop x) m e = absurd (stop≢due e)
 
-  module _ (joins : (s x : S) → OfRes Not8 (join s x)) (follows : (c : C) (st : List (Option S)) → OfPlace Not8 (after c st))
-      (rules : (v : Bool) (c : C) (r : R) (i : ℕ) (s : S) → OfRes Not8 (leaves v c r i s)) where
+  module _ (joins : (s x : S) → OfRes Not8 (α .join s x)) (follows : (c : C) (st : List (Option S)) → OfPlace Not8 (α .after c st))
+      (rules : (v : Bool) (c : C) (r : R) (i : ℕ) (s : S) → OfRes Not8 (α .leaves v c r i s)) where
     stop-inj : {x y : Stop} → _≡_ {A = Where C F R S} (stop x) (stop y) → x ≡ y
     stop-inj h = cc
 
@@ -129,20 +107,20 @@ module _ {C F R S G : Type 0}
 
     -- what a visit that is refused by 8 has met
     visit-full : (m : Machine C F S) (i : ℕ) (q : List ℕ) (o : Option S) → m .queue ≡ i ∷ q → getD (m .states) i none ≡ o
-        → visitAt join cap view (Adds (m .validating)) (leaves (m .validating) (m .chunk)) (m .facts) (m .states) q i o ≡ bad 8 → (f : FullHere m) × (f .entry ≡ i)
+        → visitAt (α .join) (α .room) (α .view) (adds α (m .validating)) (α .leaves (m .validating) (m .chunk)) (m .facts) (m .states) q i o ≡ bad 8 → (f : FullAt α m) × (f .entry ≡ i)
     unfolding visitAt
     visit-full m i q none z e h = absurd (bad≢ok (sym h))
-    visit-full m i q (some s) z e h = ruled (leaves (m .validating) (m .chunk) (view (m .facts)) i s) refl h
+    visit-full m i q (some s) z e h = ruled (α .leaves (m .validating) (m .chunk) (α .view (m .facts)) i s) refl h
       where
         w : Work S
         w = record { states = m .states; queue = q }
 
-        put-all : (x : Effect S G) → leaves (m .validating) (m .chunk) (view (m .facts)) i s ≡ ok x → (r : Res (Work S)) → puts join cap w (x .ways) ≡ r
-            → bind {B = Seen F S} r (λ v. ok (record { facts = Adds (m .validating) (m .facts) (x .gives); work = v })) ≡ bad 8 → (f : FullHere m) × (f .entry ≡ i)
+        put-all : (x : Effect S G) → α .leaves (m .validating) (m .chunk) (α .view (m .facts)) i s ≡ ok x → (r : Res (Work S)) → puts (α .join) (α .room) w (x .ways) ≡ r
+            → bind {B = Seen F S} r (λ v. ok (record { facts = adds α (m .validating) (m .facts) (x .gives); work = v })) ≡ bad 8 → (f : FullAt α m) × (f .entry ≡ i)
         put-all x l (ok v) p h = absurd (bad≢ok (sym h))
         put-all x l (bad n) p h =
             let k : n ≡ 8 = bad-inj h in
-            let f = puts-full join cap joins w (x .ways) (rw k at p) in (
+            let f = puts-full (α .join) (α .room) joins w (x .ways) (rw k at p) in (
               record {
                 entry = i;
                 others = q;
@@ -162,82 +140,77 @@ module _ {C F R S G : Type 0}
               refl,
             )
 
-        ruled : (r : Res (Effect S G)) → leaves (m .validating) (m .chunk) (view (m .facts)) i s ≡ r
-            → bind {B = Seen F S} r (λ x. bind (puts join cap w (x .ways)) (λ v. ok (record { facts = Adds (m .validating) (m .facts) (x .gives); work = v }))) ≡ bad 8
-            → (f : FullHere m) × (f .entry ≡ i)
+        ruled : (r : Res (Effect S G)) → α .leaves (m .validating) (m .chunk) (α .view (m .facts)) i s ≡ r
+            → bind {B = Seen F S} r (λ x. bind (puts (α .join) (α .room) w (x .ways)) (λ v. ok (record { facts = adds α (m .validating) (m .facts) (x .gives); work = v }))) ≡ bad 8
+            → (f : FullAt α m) × (f .entry ≡ i)
         ruled (bad n) l h =
             let k : n ≡ 8 = bad-inj h in
-            absurd ((rw l at (rules (m .validating) (m .chunk) (view (m .facts)) i s)) k)
-        ruled (ok x) l h = put-all x l (puts join cap w (x .ways)) refl h
+            absurd ((rw l at (rules (m .validating) (m .chunk) (α .view (m .facts)) i s)) k)
+        ruled (ok x) l h = put-all x l (puts (α .join) (α .room) w (x .ways)) refl h
 
-    full-visit : (m : Machine C F S) (f : FullHere m)
-        → visit join cap view (Adds (m .validating)) (leaves (m .validating) (m .chunk)) (m .facts) (m .states) (f .others) (f .entry) ≡ bad 8
+    full-visit : (m : Machine C F S) (f : FullAt α m)
+        → visit (α .join) (α .room) (α .view) (adds α (m .validating)) (α .leaves (m .validating) (m .chunk)) (m .facts) (m .states) (f .others) (f .entry) ≡ bad 8
     unfolding visit visitAt
-    full-visit m f = rw (f .recorded, f .rule, f .ways, full-puts join cap joins _ (f .work) (f .before) (f .way) (f .behind) (f .came) (f .full))
+    full-visit m f = rw (f .recorded, f .rule, f .ways, full-puts (α .join) (α .room) joins _ (f .work) (f .before) (f .way) (f .behind) (f .came) (f .full))
 
-    next-full : (m : Machine C F S) (i : ℕ) (q : List ℕ) (n c j : ℕ) → m .queue ≡ i ∷ q → Next m ≡ halt n c j → n ≡ 8
-        → (f : FullHere m) × (c ≡ m .number) × (j ≡ f .entry)
+    next-full : (m : Machine C F S) (i : ℕ) (q : List ℕ) (n c j : ℕ) → m .queue ≡ i ∷ q → next α m ≡ halt n c j → n ≡ 8
+        → (f : FullAt α m) × (c ≡ m .number) × (j ≡ f .entry)
     unfolding next takes visit onSeen
-    next-full m i q n c j z h e = seen (visitAt join cap view (Adds (m .validating)) (leaves (m .validating) (m .chunk)) (m .facts) (m .states) q i (getD (m .states) i none)) refl
-        (ap (takes join cap chunks reachable start after open′ view absorb moved close leaves m) (sym z) ∙ h)
+    next-full m i q n c j z h e = seen (visitAt (α .join) (α .room) (α .view) (adds α (m .validating)) (α .leaves (m .validating) (m .chunk)) (m .facts) (m .states) q i (getD (m .states) i none)) refl
+        (ap (takes α m) (sym z) ∙ h)
       where
-        here : (c ≡ m .number) → (j ≡ i) → (f : FullHere m) × (f .entry ≡ i) → (f : FullHere m) × (c ≡ m .number) × (j ≡ f .entry)
+        here : (c ≡ m .number) → (j ≡ i) → (f : FullAt α m) × (f .entry ≡ i) → (f : FullAt α m) × (c ≡ m .number) × (j ≡ f .entry)
         here a b (f, p) = (f, a, b ∙ sym p)
 
-        seen : (o : Res (Seen F S)) → visitAt join cap view (Adds (m .validating)) (leaves (m .validating) (m .chunk)) (m .facts) (m .states) q i (getD (m .states) i none) ≡ o
-            → onSeen join cap chunks reachable start after open′ view absorb moved close leaves m i o ≡ halt n c j → (f : FullHere m) × (c ≡ m .number) × (j ≡ f .entry)
-        seen (ok r) p h =
-            absurd (not-halt h (settled-of join cap chunks reachable start after open′ view absorb moved close leaves Not8 follows _ (r .work .queue)) e)
+        seen : (o : Res (Seen F S)) → visitAt (α .join) (α .room) (α .view) (adds α (m .validating)) (α .leaves (m .validating) (m .chunk)) (m .facts) (m .states) q i (getD (m .states) i none) ≡ o
+            → onSeen α m i o ≡ halt n c j → (f : FullAt α m) × (c ≡ m .number) × (j ≡ f .entry)
+        seen (ok r) p h = absurd (not-halt h (settled-of α Not8 follows _ (r .work .queue)) e)
         seen (bad k) p h =
             let x = stop-inj h in
             let k8 : k ≡ 8 = ap (λ (y : Stop). y .number) x ∙ e in
             here (sym (ap (λ (y : Stop). y .chunk) x)) (sym (ap (λ (y : Stop). y .instruction) x)) (visit-full m i q _ z refl (rw k8 at p))
 
-    full-next : (m : Machine C F S) (f : FullHere m) → Next m ≡ halt 8 (m .number) (f .entry)
+    full-next : (m : Machine C F S) (f : FullAt α m) → next α m ≡ halt 8 (m .number) (f .entry)
     unfolding next takes onSeen
     full-next m f = rw (f .queued, full-visit m f)
 
-    begun-live : (r : R) → OfWhere Not8 (Begun r)
+    begun-live : (r : R) → OfWhere Not8 (begun α r)
     unfolding begun finish
-    begun-live r = enter-of join cap chunks reachable start after open′ view absorb moved close leaves Not8 follows false _ (λ f past. tt) 0 (open′ r) [] chunks
+    begun-live r = enter-of α Not8 follows false _ (λ f past. tt) 0 (α .opened r) [] (α .chunks)
 
     -- THEOREM: 8 only where a taking has to put an entry into a full queue
-    pub check-full : (limit : ℕ) (r : R) (ρ : Refusal) → check join cap chunks reachable start after open′ view absorb moved close leaves limit r ≡ refused ρ → ρ .number ≡ 8
-        → FilledBy limit r ρ
+    pub check-full : (limit : ℕ) (r : R) (ρ : Refusal) → check α limit r ≡ refused ρ → ρ .number ≡ 8 → Filled α limit r ρ
     unfolding after-takings
-    check-full limit r ρ h e = go (refused-counted join cap chunks reachable start after open′ view absorb moved close leaves limit r ρ h)
+    check-full limit r ρ h e = go (refused-counted α limit r ρ h)
       where
-        counted : (n : ℕ) → ρ .steps ≡ n
-            → Counted join cap chunks reachable start after open′ view absorb moved close leaves (Begun r) limit n (halt (ρ .number) (ρ .chunk) (ρ .instruction)) → FilledBy limit r ρ
+        counted : (n : ℕ) → ρ .steps ≡ n → Counted α (begun α r) limit n (halt (ρ .number) (ρ .chunk) (ρ .instruction)) → Filled α limit r ρ
         counted zero z c = absurd (not-halt (c .ends) (begun-live r) e)
         counted (suc n) z c =
             let (m, d) = c .before n (omega arith) in
-            let (i, q, k) = due-queued join cap chunks reachable start after open′ view absorb moved close leaves n r m d in
-            let (f, a, b) = next-full m i q (ρ .number) (ρ .chunk) (ρ .instruction) k (sym (after-next n (Begun r) m d) ∙ c .ends) e in
+            let (i, q, k) = due-queued α n r m d in
+            let (f, a, b) = next-full m i q (ρ .number) (ρ .chunk) (ρ .instruction) k (sym (after-next n (begun α r) m d) ∙ c .ends) e in
             record { taken = n; within = c .within; machine = m; stands = d; at = f; named = refusal-eq ρ 8 (m .number) (f .entry) (suc n) e a b z }
 
-        go : Spent join cap chunks reachable start after open′ view absorb moved close leaves limit r ρ
-            ⊎ Counted join cap chunks reachable start after open′ view absorb moved close leaves (Begun r) limit (ρ .steps) (halt (ρ .number) (ρ .chunk) (ρ .instruction))
-            → FilledBy limit r ρ
+        go : Spent α limit r ρ ⊎ Counted α (begun α r) limit (ρ .steps) (halt (ρ .number) (ρ .chunk) (ρ .instruction)) → Filled α limit r ρ
         go (inl (m, d, p)) = let z : ρ .number ≡ 7 = ap (λ (x : Refusal). x .number) p in absurd (omega arith)
         go (inr c) = counted (ρ .steps) refl c
 
     -- THEOREM: and there it comes
-    pub full-check : (limit : ℕ) (r : R) (ρ : Refusal) → FilledBy limit r ρ → check join cap chunks reachable start after open′ view absorb moved close leaves limit r ≡ refused ρ
+    pub full-check : (limit : ℕ) (r : R) (ρ : Refusal) → Filled α limit r ρ → check α limit r ≡ refused ρ
     full-check limit r ρ f =
         let m = f .machine in
-        let all : (k : ℕ) → k < suc (f .taken) → Due (After k (Begun r)) = λ k l. earlier k (ltb k (f .taken)) refl l in
-        let c : Counted join cap chunks reachable start after open′ view absorb moved close leaves (Begun r) limit (suc (f .taken)) (halt 8 (m .number) (f .at .entry)) = record {
+        let all : (k : ℕ) → k < suc (f .taken) → Due (after-takings α k (begun α r)) = λ k l. earlier k (ltb k (f .taken)) refl l in
+        let c : Counted α (begun α r) limit (suc (f .taken)) (halt 8 (m .number) (f .at .entry)) = record {
           within = f .within;
-          ends = after-next (f .taken) (Begun r) m (f .stands) ∙ full-next m (f .at);
+          ends = after-next (f .taken) (begun α r) m (f .stands) ∙ full-next m (f .at);
           before = all;
         } in
-        rw (f .named) (counted-refused join cap chunks reachable start after open′ view absorb moved close leaves limit r _ (suc (f .taken)) c)
+        rw (f .named) (counted-refused α limit r _ (suc (f .taken)) c)
       where
-        earlier : (k : ℕ) (b : Bool) → ltb k (f .taken) ≡ b → k < suc (f .taken) → Due (After k (Begun r))
+        earlier : (k : ℕ) (b : Bool) → ltb k (f .taken) ≡ b → k < suc (f .taken) → Due (after-takings α k (begun α r))
         earlier k true e l =
-            due-before join cap chunks reachable start after open′ view absorb moved close leaves (f .taken) k (Begun r)
-            (rw (takings-due join cap chunks reachable start after open′ view absorb moved close leaves (f .taken) (Begun r) (f .machine) (f .stands)) (ltb-true k (f .taken) e))
+            due-before α (f .taken) k (begun α r)
+            (rw (takings-due α (f .taken) (begun α r) (f .machine) (f .stands)) (ltb-true k (f .taken) e))
         earlier k false e l =
             let z : k ≡ f .taken = let u = ltb-false k (f .taken) e in omega arith in
             (f .machine, rw z (f .stands))
@@ -245,10 +218,10 @@ module _ {C F R S G : Type 0}
 -- ---- the definition
 module _ (k : Known) (cap limit : ℕ) (f : Facts) (ρ : Refusal) where
   abbrev pub FilledRun : Type 0
-  FilledRun = Filled join cap (k .code .chunks) (λ c. c .reachable) start afterChunk opened (λ x. x .known) (absorb (k .code)) moved closed (leaves k) limit f ρ
+  FilledRun = Filled (analysisOf k cap) limit f ρ
 
   abbrev pub SpentRun : Type 0
-  SpentRun = Spent join cap (k .code .chunks) (λ c. c .reachable) start afterChunk opened (λ x. x .known) (absorb (k .code)) moved closed (leaves k) limit f ρ
+  SpentRun = Spent (analysisOf k cap) limit f ρ
 
   late : (n : ℕ) → 13 ≤ n → Not8 n
   late n l = λ e. omega arith
@@ -257,9 +230,9 @@ module _ (k : Known) (cap limit : ℕ) (f : Facts) (ρ : Refusal) where
   pub run-eight : ((runOf k cap limit f ≡ refused ρ) × (ρ .number ≡ 8)) ↔ FilledRun
   unfolding runOf
   run-eight = (
-    λ (e, z). check-full join cap (k .code .chunks) (λ c. c .reachable) start afterChunk opened (λ x. x .known) (absorb (k .code)) moved closed (leaves k) (join-late Not8 late) (after-late Not8 late) (leaves-late Not8 late k) limit f ρ e z,
+    λ (e, z). check-full (analysisOf k cap) (join-late Not8 late) (after-late Not8 late) (leaves-late Not8 late k) limit f ρ e z,
     λ h. (
-      full-check join cap (k .code .chunks) (λ c. c .reachable) start afterChunk opened (λ x. x .known) (absorb (k .code)) moved closed (leaves k) (join-late Not8 late) (after-late Not8 late) (leaves-late Not8 late k) limit f ρ h,
+      full-check (analysisOf k cap) (join-late Not8 late) (after-late Not8 late) (leaves-late Not8 late k) limit f ρ h,
       ap (λ (x : Refusal). x .number) (h .named),
     ),
   )
@@ -270,7 +243,7 @@ module _ (k : Known) (cap limit : ℕ) (f : Facts) (ρ : Refusal) where
   run-seven = (
     λ (e, z). seven-exactly k cap limit f ρ e z,
     λ (m, e, p). (
-      rw p (spent-refused join cap (k .code .chunks) (λ c. c .reachable) start afterChunk opened (λ x. x .known) (absorb (k .code)) moved closed (leaves k) limit f m e),
+      rw p (spent-refused (analysisOf k cap) limit f m e),
       ap (λ (x : Refusal). x .number) p,
     ),
   )

@@ -13,12 +13,11 @@ use Rattle.answers.specs.Answers.{nowhere}
 use Rattle.definition.specs.declared.Form.the-variants.{Fine}
 use Rattle.definition.specs.Machine.{Ran, accepted, refused}
 use Rattle.definition.specs.Module.{Module, moduleOf}
-use Rattle.definition.specs.State.{State, Facts, join}
-use Rattle.definition.specs.Leaves.{leaves, absorb, opened, closed, moved}
+use Rattle.definition.specs.State.{State, Facts}
 use Rattle.definition.specs.Form.{formOf}
-use Rattle.definition.specs.Start.{admitted, firstFacts, replyMaximum, knownOf, start, afterChunk}
+use Rattle.definition.specs.Start.{admitted, firstFacts, replyMaximum, knownOf}
 use Rattle.definition.specs.Report.{reportBytes}
-use Rattle.definition.specs.Call.{Decided, reported, turned, runOf, admittedRun, onReply, known, onAdmitted, decided, onForm, decide, Outcome, turnedBack, delivered, outcomeOf, call}
+use Rattle.definition.specs.Call.{Decided, reported, turned, analysisOf, runOf, admittedRun, onReply, known, onAdmitted, decided, onForm, decide, Outcome, turnedBack, delivered, outcomeOf, call}
 use Rattle.form_laws.proofs.Theorem.{good-form}
 use Rattle.machine_laws.proofs.Limits.{check-more, refused-more}
 use Rattle.refusal_laws.proofs.Only.{OfRan}
@@ -33,10 +32,8 @@ unfolding runOf knownOf
 run-settled m cap cap′ n n′ c l o = go (runFor m cap n) refl o
   where
     go : (x : Ran Facts State) → runFor m cap n ≡ x → OfRan Otherwise x → runFor m cap′ n′ ≡ x
-    go (accepted x k) e o =
-        check-more join cap cap′ (m .chunks) (λ c. c .reachable) start afterChunk opened (λ x. x .known) (absorb m) moved closed (leaves (knownOf m (firstFacts m))) c n n′ (firstFacts m) x k l e
-    go (refused r) e o =
-        refused-more join cap cap′ (m .chunks) (λ c. c .reachable) start afterChunk opened (λ x. x .known) (absorb m) moved closed (leaves (knownOf m (firstFacts m))) c n n′ (firstFacts m) r l (o .0) (o .1) e
+    go (accepted x k) e o = check-more (analysisOf (knownOf m (firstFacts m)) cap) cap′ c n n′ (firstFacts m) x k l e
+    go (refused r) e o = refused-more (analysisOf (knownOf m (firstFacts m)) cap) cap′ c n n′ (firstFacts m) r l (o .0) (o .1) e
 
 -- ---- what is decided: room and limit are the run's alone
 decided-settled : (m : Module) (cap cap′ n n′ : ℕ) → (admitted m (m .chunks) ≡ none → runFor m cap′ n′ ≡ runFor m cap n) → decided m cap′ n′ ≡ decided m cap n

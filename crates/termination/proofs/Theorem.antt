@@ -15,10 +15,10 @@ use Rattle.definition.specs.Res.{ok}
 use Rattle.definition.specs.Machine.{Joined}
 use Rattle.definition.specs.Module.{Module, Chunk, moduleOf}
 use Rattle.definition.specs.State.{State, Facts, joinStates, sameStates, joinIf, join}
-use Rattle.definition.specs.Leaves.{Known, leaves, absorb, opened, closed, moved}
+use Rattle.definition.specs.Leaves.{Known}
 use Rattle.definition.specs.Form.{formOf}
-use Rattle.definition.specs.Start.{firstFacts, knownOf, start, afterChunk, admitted}
-use Rattle.definition.specs.Call.{runOf, call}
+use Rattle.definition.specs.Start.{firstFacts, knownOf, start, admitted}
+use Rattle.definition.specs.Call.{analysisOf, runOf, call}
 use Rattle.form_laws.specs.Good.{noChunk}
 use Rattle.form_laws.proofs.Admitted.{chunk-admitted}
 use Rattle.form_laws.proofs.Theorem.{good-form}
@@ -107,7 +107,7 @@ module _ (m : Module) (inits : All SmallMask (m .inits)) (signed : m .signatures
   other : (n : ℕ) → 13 ≤ n → Otherwise n
   other n l = (λ e. omega arith, λ e. omega arith)
 
-  ends : (cap : ℕ) → Ends join cap (m .chunks) (λ c. c .reachable) start afterChunk opened (λ x. x .known) (absorb m) moved closed (leaves k)
+  ends : (cap : ℕ) → Ends (analysisOf k cap)
       (StateFits most height width results slots) (FactsFit most height width results slots) (LiveFits most height width results slots)
       (GiftFits most height width results slots) (ChunkFits most height width results slots)
       (stateLeft most) (stateMost m) (changesLeft most) (λ c. length (c .code))
@@ -128,7 +128,7 @@ module _ (m : Module) (inits : All SmallMask (m .inits)) (signed : m .signatures
   pub run-ends : (cap limit : ℕ) → roomFor m ≤ cap → limitFor m ≤ limit → OfRan Otherwise (runOf k cap limit facts)
   unfolding runOf roomFor limitFor knownOf
   run-ends cap limit r l =
-      check-ends join cap (m .chunks) (λ c. c .reachable) start afterChunk opened (λ x. x .known) (absorb m) moved closed (leaves k)
+      check-ends (analysisOf k cap)
       (StateFits most height width results slots) (FactsFit most height width results slots) (LiveFits most height width results slots)
       (GiftFits most height width results slots) (ChunkFits most height width results slots)
       (stateLeft most) (stateMost m) (changesLeft most) (λ c. length (c .code)) (ends cap) chunks-fit r limit facts facts-fit l

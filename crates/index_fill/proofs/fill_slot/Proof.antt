@@ -1,5 +1,5 @@
 use Rattle.index_fill.specs.model.Model.{slotWords}
-use borrow.Author.Tests.{ne-eqb}
+use borrow.Author.Tests.{ne-eqb, not-true, not-false}
 use borrow.Author.Needs.{needs}
 use Rattle.index_fill.proofs.fill_slot.Statement.{statement}
 use Rattle.index_fill.proofs.fill_slot.Tie as tie
@@ -34,11 +34,15 @@ same-length-2 c = search needs
 
 returns-2 : tie.Need-returns-2
 unfolding slotWords
-returns-2 c = rw (c .before .before .before .before .before .match .keys2, ← c .before .before .before .init-mask .ensures) (c .before .before .init .ensures)
+returns-2 c = rw (c .before .before .before .before .before .before .match .keys2, not-true (c .before .before .before .before .before .before .before .before .before .args .keep) (c .before .before .before .before .before .if1 .taken), ← c .before .before .before .init-mask .ensures) (c .before .before .init .ensures)
 
 returns-3 : tie.Need-returns-3
 unfolding slotWords
-returns-3 c = rw (ne-eqb _ _ (c .match .rest .0 .1), ne-eqb _ _ (c .match .rest .1))
+returns-3 c = rw (c .before .match .keys2, not-false (c .before .before .before .before .args .keep) (c .if1 .left))
+
+returns-4 : tie.Need-returns-4
+unfolding slotWords
+returns-4 c = rw (ne-eqb _ _ (c .match .rest .0 .1), ne-eqb _ _ (c .match .rest .1))
 
 pub fill-slot-spec : {M : Type 1} → statement M
 fill-slot-spec =
@@ -54,4 +58,5 @@ fill-slot-spec =
     returns
     same-length-2
     returns-2
-    returns-3)
+    returns-3
+    returns-4)

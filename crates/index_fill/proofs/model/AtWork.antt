@@ -35,22 +35,22 @@ length-code tag s p t w ws =
 
 length-mark : (t : Tables) (k : ℕ) (ws : List ℕ) → length (markWords t k ws) ≡ length ws
 unfolding markWords
-length-mark t k ws = long-either (ltb k (t .slots)) (set ws (slotOf t k + 15) 65536) ws (length ws) (simp length-set) refl
+length-mark t k ws = long-either (ltb k (t .slots)) _ ws (length ws) (length-set ws (slotOf t k + 15) _) refl
 
 length-init : (t : Tables) (m : Mask) (ws : List ℕ) → length (initWords t m ws) ≡ length ws
 unfolding initWords
 length-init t m ws =
     long-either (ltb (t .shared + t .inits) (t .slots)) (set ws (slotOf t (t .shared + t .inits)) (m .bits)) ws (length ws) (simp length-set) refl
 
-length-slot : (tag : ℕ) (s : List ℕ) (p : ℕ) (t : Tables) (ws : List ℕ) → length (slotWords tag s p t ws) ≡ length ws
+length-slot : (tag : ℕ) (s : List ℕ) (p : ℕ) (t : Tables) (keep : Bool) (ws : List ℕ) → length (slotWords tag s p t keep ws) ≡ length ws
 unfolding slotWords
-length-slot tag s p t ws =
+length-slot tag s p t keep ws =
     long-either (eqb tag 7) _ _ (length ws) (length-mark t (at16 s (p + 3)) ws)
-    (long-either (eqb tag 8) _ ws (length ws) (length-init t (initOf s p) ws) refl)
+    (long-either (eqb tag 8) _ ws (length ws) (long-either keep ws _ (length ws) refl (length-init t (initOf s p) ws)) refl)
 
 pub length-after : (s : List ℕ) (p : ℕ) (t : Tables) (w : FillState) (ws : List ℕ) → length (wordsAfter s p t w ws) ≡ length ws
 unfolding wordsAfter
-length-after s p t w ws = length-slot (tagAt s p) s p t (codeWords (tagAt s p) s p t w ws) ∙ length-code (tagAt s p) s p t w ws
+length-after s p t w ws = length-slot (tagAt s p) s p t (w .keep) (codeWords (tagAt s p) s p t w ws) ∙ length-code (tagAt s p) s p t w ws
 
 -- a site before the next chunk
 unfoldable pub siteIn : List ℕ → List ℕ → Bool
@@ -59,19 +59,19 @@ siteIn s (p ∷ ps) = cond (eqb (tagAt s p) 2) false (cond (eqb (tagAt s p) 3) (
 
 -- ---- one field, by its kind
 module _ (s : List ℕ) (p : ℕ) (t : Tables) (w : FillState) (ws : List ℕ) (a : ℕ) (o : (a < headWords + 16 * t .chunks) ⊎ (areas t ≤ a)) where
-  after-chunk : eqb (tagAt s p) 2 ≡ true → (a < numbersAt (w .seen)) ⊎ (numbersAt (w .seen) + 10 ≤ a) → getD (wordsAfter s p t w ws) a 0 ≡ getD ws a 0
+  pub after-chunk : eqb (tagAt s p) 2 ≡ true → (a < numbersAt (w .seen)) ⊎ (numbersAt (w .seen) + 10 ≤ a) → getD (wordsAfter s p t w ws) a 0 ≡ getD ws a 0
   unfolding codeWords chunkWords
   after-chunk e h = outside s p t w ws a o ∙ rw e (putN-out ws (numbersAt (w .seen)) (numberWords (numbersOf s p t w)) 10 a h)
 
-  after-instr : eqb (tagAt s p) 2 ≡ false → eqb (tagAt s p) 3 ≡ true → getD (wordsAfter s p t w ws) a 0 ≡ getD (instrWords p w ws) a 0
+  pub after-instr : eqb (tagAt s p) 2 ≡ false → eqb (tagAt s p) 3 ≡ true → getD (wordsAfter s p t w ws) a 0 ≡ getD (instrWords p w ws) a 0
   unfolding codeWords
   after-instr e f = outside s p t w ws a o ∙ rw (e, f)
 
-  after-site : eqb (tagAt s p) 2 ≡ false → eqb (tagAt s p) 3 ≡ false → eqb (tagAt s p) 4 ≡ true → getD (wordsAfter s p t w ws) a 0 ≡ getD (siteWords w ws) a 0
+  pub after-site : eqb (tagAt s p) 2 ≡ false → eqb (tagAt s p) 3 ≡ false → eqb (tagAt s p) 4 ≡ true → getD (wordsAfter s p t w ws) a 0 ≡ getD (siteWords w ws) a 0
   unfolding codeWords
   after-site e f g = outside s p t w ws a o ∙ rw (e, f, g)
 
-  after-other : eqb (tagAt s p) 2 ≡ false → eqb (tagAt s p) 3 ≡ false → eqb (tagAt s p) 4 ≡ false → getD (wordsAfter s p t w ws) a 0 ≡ getD ws a 0
+  pub after-other : eqb (tagAt s p) 2 ≡ false → eqb (tagAt s p) 3 ≡ false → eqb (tagAt s p) 4 ≡ false → getD (wordsAfter s p t w ws) a 0 ≡ getD ws a 0
   unfolding codeWords
   after-other e f g = outside s p t w ws a o ∙ rw (e, f, g)
 

@@ -1,7 +1,7 @@
 -- Before the first field behind the header: the module's tables stand in the fields that come, and there is room for them.
 use Prim.Native.Nat.{ℕ, _+_, _*_, _≤_}
 use mathlib.Core.Path.{_≡_, refl}
-use mathlib.Core.Bool.{true}
+use mathlib.Core.Bool.{Bool, true}
 use mathlib.Core.List.{List, [], _∷_}
 use mathlib.Core.Logic.{inl}
 use native.Mathlib.Omega.{arith}
@@ -61,9 +61,9 @@ module _ (s : List ℕ) (q : ℕ) (g : Good s q) where
   unfolding moduleFrom moduleOf
   slots-most = g .slots
 
-  pub room-first : Room s (fieldsOf s) (firstTables s q) (firstWork (firstTables s q)) q
+  pub room-first : (keep : Bool) → Room s (fieldsOf s) (firstTables s q) (firstWork (firstTables s q) keep) q
   unfolding firstTables firstWork
-  room-first =
+  room-first keep =
       let c = chunks-are in
       let most = g .chunksMost in
       let same = g .chunks in

@@ -53,7 +53,7 @@ length-code-places s (p ∷ ps) =
     (λ e f g. rw (e, f) (length-code-places s ps))
 
 -- where the area of the chunk k of the rest begins
-abbrev startOf : List ℕ → List ℕ → Tables → FillState → ℕ → ℕ
+abbrev pub startOf : List ℕ → List ℕ → Tables → FillState → ℕ → ℕ
 startOf s ps t w k = w .free + w .size * length (codeAfter s ps) + 16 * cellsBefore (chunksFrom s (t .signatures) (w .seen) ps) k
 
 unfoldable pub EachHolds : List ℕ → List ℕ → Tables → FillState → List ℕ → Type 0
@@ -72,7 +72,7 @@ module _ (s : List ℕ) (p : ℕ) (ps : List ℕ) (t : Tables) (w : FillState) (
   vs = wordsAfter s p t w ws
 
   module _ (e : eqb (tagAt s p) 2 ≡ true) where
-    after-c : FillReady s ps u (chunkWork s p t w) vs n
+    pub after-c : FillReady s ps u (chunkWork s p t w) vs n
     after-c = ready s p ps t w ws n r (chunkWork s p t w) (room-chunk s p ps t w n (r .room) e)
 
     written : (k : ℕ) → k < 10 → getD vs (numbersAt (w .seen) + k) 0 ≡ getD (numberWords (numbersOf s p t w)) k 0

@@ -1,4 +1,4 @@
--- The walk over the fields of a description of good form leaves its index, where the words of the slots are 0.
+-- The walk over the fields of a description of good form leaves its index, and fresh slots where their words are 0.
 use Prim.Native.Nat.{ℕ, zero, suc, _+_, _*_, _-_, _/_, _%_, _<_, _≤_}
 use mathlib.Core.Path.{_≡_, refl, sym, ap, _∙_}
 use mathlib.Core.Bool.{Bool, true, false, not, cond}
@@ -15,7 +15,7 @@ use Rattle.description.specs.Fields.{tagAt, nextAt, headerOf, ofTag}
 use Rattle.words.specs.Layout.{Storable, encode, cellAt}
 use Rattle.words.proofs.Laws.{holds-cell}
 use Rattle.definition.specs.Module.{Module, flag, chunksFrom, initOf, moduleFrom, moduleOf}
-use Rattle.definition.specs.Data.{member, isBody}
+use Rattle.definition.specs.Data.{isBody}
 use Rattle.definition.specs.Leaves.{streams}
 use Rattle.definition.specs.Start.{hasSite, initMask}
 use Rattle.form_laws.specs.Good.{Good, chunkNo}
@@ -28,7 +28,7 @@ use Rattle.index_fill.proofs.model.Keep.{inner, keeps}
 use Rattle.index_fill.proofs.model.AtWork.{FillReady, length-after}
 use Rattle.index_fill.proofs.model.Chunks.{ChunkHolds, moved, EachHolds, each}
 use Rattle.index_fill.proofs.model.Orderly.{linked, marks-hold}
-use Rattle.index_fill.proofs.model.Slots.{placedIn, initsIn, initWord, marked, inited}
+use Rattle.index_fill.proofs.model.Slots.{initsIn, initWord, markIf, marked, inited}
 use Rattle.index_fill.proofs.model.Counts.{counted, tables-are}
 use Rattle.index_fill.proofs.model.Begin.{fieldsOf, module-is, places-are, natives-are, shared-are, ordered-rest, chunks-are, room-first}
 
@@ -107,15 +107,15 @@ fresh-slot ws a m s f z = holds-cell ws a (freshSlot m) (fresh-fit m s) (record 
         ap (λ (i : ℕ). getD ws i 0) e ∙ f ∙ sym (fresh-first m)
     go (suc k) h = z (suc k) (omega arith) h ∙ sym (fresh-words m (suc k) (omega arith) h)
 
-module _ (s ws : List ℕ) (q : ℕ) (g : Good s q) (room : q ≤ length ws) (zeros : (k : ℕ) → k < headWords + 16 * (headerOf s 0 .chunks + headerOf s 0 .slots) → getD ws k 0 ≡ 0) where
+module _ (s ws : List ℕ) (q : ℕ) (keep : Bool) (g : Good s q) (room : q ≤ length ws) where
   abbrev first : Tables
   first = firstTables s q
 
   abbrev last : List ℕ
-  last = wordsFrom s (fieldsOf s) (firstTables s q) (firstWork (firstTables s q)) ws
+  last = wordsFrom s (fieldsOf s) (firstTables s q) (firstWork (firstTables s q) keep) ws
 
-  ready-first : FillReady s (fieldsOf s) (firstTables s q) (firstWork (firstTables s q)) ws q
-  ready-first = record { room = room-first s q g; long = room }
+  pub ready-first : FillReady s (fieldsOf s) (firstTables s q) (firstWork (firstTables s q) keep) ws q
+  ready-first = record { room = room-first s q g keep; long = room }
 
   chunk-holds : (k : ℕ) → k < length (moduleOf s .chunks)
       → ChunkHolds last k (16 * areaOf (moduleOf s) k) (moduleOf s .entry) (chunkNo (moduleOf s) k) (chunkPlace s k) (hasSite (chunkNo (moduleOf s) k .code))
@@ -125,7 +125,7 @@ module _ (s ws : List ℕ) (q : ℕ) (g : Good s q) (room : q ≤ length ws) (ze
       let cs = chunksFrom s (headerOf s 0 .signatures) 0 (fieldsOf s) in
       let c = chunks-are s q g in
       rw (module-is s q g, places-are s q g, ← marks-hold s 1 (nextAt s 0) (fieldsOf s) (linked s (nextAt s 0)) (ordered-rest s q g) (headerOf s 0 .signatures) 0 k)
-      (moved last (0 + k) k _ _ _ _ _ _ (omega arith) (omega arith) (each s (fieldsOf s) first (firstWork first) ws q ready-first k l))
+      (moved last (0 + k) k _ _ _ _ _ _ (omega arith) (omega arith) (each s (fieldsOf s) first (firstWork first keep) ws q ready-first k l))
 
   numbers-hold : (k : ℕ) → k < length (moduleOf s .chunks) → NumbersHold s last k
   unfolding rowsAt inputAt
@@ -150,7 +150,7 @@ module _ (s ws : List ℕ) (q : ℕ) (g : Good s q) (room : q ≤ length ws) (ze
   unfolding rowAt rowsAt
   fields-hold n i h l = chunk-holds n h .fields i l
 
-  suspends-hold : (n : ℕ) → n < length (moduleOf s .chunks) → suspendsAt last n ≡ hasSite (chunkNo (moduleOf s) n .code)
+  pub suspends-hold : (n : ℕ) → n < length (moduleOf s .chunks) → suspendsAt last n ≡ hasSite (chunkNo (moduleOf s) n .code)
   unfolding suspendsAt
   suspends-hold n h = rw (chunk-holds n h .site) (go (hasSite (chunkNo (moduleOf s) n .code)))
     where
@@ -159,59 +159,33 @@ module _ (s ws : List ℕ) (q : ℕ) (g : Good s q) (room : q ≤ length ws) (ze
       go false = refl
 
   -- ---- the slots
-  slots-are : (n : ℕ) → slotAt (moduleOf s) n ≡ slotOf first n
+  pub slots-are : (n : ℕ) → slotAt (moduleOf s) n ≡ slotOf first n
   unfolding slotAt firstTables
   slots-are n = rw (g .chunks)
 
-  slot-is : (n : ℕ) → n < moduleOf s .slots → n < first .slots
+  pub slot-is : (n : ℕ) → n < moduleOf s .slots → n < first .slots
   unfolding firstTables moduleFrom
   slot-is n h = rw (module-is s q g) at h
 
-  none-yet : (n j : ℕ) → n < first .slots → j < 16 → getD ws (slotOf first n + j) 0 ≡ 0
-  unfolding firstTables
-  none-yet n j h l = zeros (slotOf first n + j) (omega arith)
-
-  mark-word : (n : ℕ) → n < moduleOf s .slots → getD last (slotAt (moduleOf s) n + 15) 0 ≡ cond (isBody (moduleOf s) n) 65536 0
+  mark-word : (n : ℕ) → n < moduleOf s .slots → getD last (slotAt (moduleOf s) n + 15) 0 ≡ markIf (isBody (moduleOf s) n) (getD ws (slotAt (moduleOf s) n + 15) 0)
   unfolding isBody moduleFrom
-  mark-word n h =
-      let l = slot-is n h in
-      rw (slots-are n, module-is s q g)
-      (marked s (fieldsOf s) first (firstWork first) ws q ready-first n l ∙ ap (cond (member n (placedIn s (fieldsOf s))) 65536) (none-yet n 15 l (omega arith)))
+  mark-word n h = rw (slots-are n, module-is s q g) (marked s (fieldsOf s) first (firstWork first keep) ws q ready-first n (slot-is n h))
 
-  marks-are : (n : ℕ) → n < moduleOf s .slots → getD last (slotAt (moduleOf s) n + 15) 0 / 65536 ≡ bit (isBody (moduleOf s) n)
-  marks-are n h = rw (mark-word n h) (go (isBody (moduleOf s) n))
+  marks-are : (n : ℕ) → n < moduleOf s .slots → getD ws (slotAt (moduleOf s) n + 15) 0 < 65536
+      → getD last (slotAt (moduleOf s) n + 15) 0 / 65536 ≡ bit (isBody (moduleOf s) n)
+  marks-are n h low = rw (mark-word n h) (go (isBody (moduleOf s) n))
     where
-      go : (b : Bool) → cond b 65536 0 / 65536 ≡ bit b
-      go true = refl
-      go false = refl
+      go : (b : Bool) → markIf b (getD ws (slotAt (moduleOf s) n + 15) 0) / 65536 ≡ bit b
+      go true = omega arith
+      go false = omega arith
 
-  unwritten-are : (n : ℕ) → n < moduleOf s .slots → getD last (slotAt (moduleOf s) n + 15) 0 % 65536 ≡ 0
-  unwritten-are n h = rw (mark-word n h) (go (isBody (moduleOf s) n))
+  -- the writes of a round stay
+  pub writes-stay : (n : ℕ) → n < moduleOf s .slots → getD last (slotAt (moduleOf s) n + 15) 0 % 65536 ≡ getD ws (slotAt (moduleOf s) n + 15) 0 % 65536
+  writes-stay n h = rw (mark-word n h) (go (isBody (moduleOf s) n))
     where
-      go : (b : Bool) → cond b 65536 0 % 65536 ≡ 0
-      go true = refl
+      go : (b : Bool) → markIf b (getD ws (slotAt (moduleOf s) n + 15) 0) % 65536 ≡ getD ws (slotAt (moduleOf s) n + 15) 0 % 65536
+      go true = omega arith
       go false = refl
-
-  inits-are : moduleOf s .inits ≡ map (initOf s) (ofTag 8 s (fieldsOf s))
-  unfolding moduleFrom
-  inits-are = rw (module-is s q g)
-
-  shared-long : length (moduleOf s .shared) ≡ length (ofTag 6 s (fieldsOf s))
-  unfolding moduleFrom
-  shared-long = rw (module-is s q g, length-map)
-
-  slots-fresh : (n : ℕ) → n < moduleOf s .slots → cellAt last (slotAt (moduleOf s) n) ≡ freshSlot (initMask (moduleOf s) n)
-  unfolding firstTables
-  slots-fresh n h =
-      let l = slot-is n h in
-      let z = none-yet n in
-      let e : slotOf first n + 0 ≡ slotOf first n = omega arith in
-      rw (slots-are n)
-      (fresh-slot last (slotOf first n) (initMask (moduleOf s) n) (mask-small s (fieldsOf s) (moduleOf s) n inits-are)
-      (inited s (fieldsOf s) first (firstWork first) ws q ready-first 1 (ordered-rest s q g) n l (length (ofTag 6 s (fieldsOf s))) (omega arith)
-      ∙ ap (initWord (initsIn s (fieldsOf s)) (length (ofTag 6 s (fieldsOf s))) n) (ap (λ (a : ℕ). getD ws a 0) (sym e) ∙ z 0 l (omega arith))
-      ∙ init-word s (fieldsOf s) (moduleOf s) (length (ofTag 6 s (fieldsOf s))) n shared-long inits-are)
-      (λ k a b. keeps s (fieldsOf s) first (firstWork first) ws q (room-first s q g) (slotOf first n + k) (inner n k l a b refl) ∙ z k l (omega arith)))
 
   -- ---- the tables
   pub tables-hold : tablesFrom s (fieldsOf s) (firstTables s q) ≡ tablesOf s
@@ -241,15 +215,61 @@ module _ (s ws : List ℕ) (q : ℕ) (g : Good s q) (room : q ≤ length ws) (ze
         «queue_at» = g .words i;
       })
 
-  pub index-holds : Indexed s last
-  index-holds =
+  -- the index, where no slot is marked before the walk
+  pub index-holds : ((n : ℕ) → n < moduleOf s .slots → getD ws (slotAt (moduleOf s) n + 15) 0 < 65536) → Indexed s last
+  index-holds low =
       record {
         good = rw (g .words) at g;
-        room = omega (arith, length-from s (fieldsOf s) first (firstWork first) ws, g .words);
+        room = omega (arith, length-from s (fieldsOf s) first (firstWork first keep) ws, g .words);
         numbers = numbers-hold;
         fields = fields-hold;
-        marks = marks-are;
+        marks = λ n h. marks-are n h (low n h);
       }
 
-  pub all-fresh : Fresh s last
-  all-fresh = record { suspends = suspends-hold; slots = slots-fresh; unwritten = unwritten-are }
+-- ---- the slots, where their words are 0 before the walk
+module _ (s ws : List ℕ) (q : ℕ) (g : Good s q) (room : q ≤ length ws) (zeros : (k : ℕ) → k < headWords + 16 * (headerOf s 0 .chunks + headerOf s 0 .slots) → getD ws k 0 ≡ 0) where
+  abbrev begin : Tables
+  begin = firstTables s q
+
+  abbrev end : List ℕ
+  end = wordsFrom s (fieldsOf s) (firstTables s q) (firstWork (firstTables s q) false) ws
+
+  none-yet : (n j : ℕ) → n < begin .slots → j < 16 → getD ws (slotOf begin n + j) 0 ≡ 0
+  unfolding firstTables
+  none-yet n j h l = zeros (slotOf begin n + j) (omega arith)
+
+  no-mark : (n : ℕ) → n < moduleOf s .slots → getD ws (slotAt (moduleOf s) n + 15) 0 ≡ 0
+  no-mark n h = rw (slots-are s ws q false g room n) (none-yet n 15 (slot-is s ws q false g room n h) (omega arith))
+
+  inits-are : moduleOf s .inits ≡ map (initOf s) (ofTag 8 s (fieldsOf s))
+  unfolding moduleFrom
+  inits-are = rw (module-is s q g)
+
+  shared-long : length (moduleOf s .shared) ≡ length (ofTag 6 s (fieldsOf s))
+  unfolding moduleFrom
+  shared-long = rw (module-is s q g, length-map)
+
+  slots-fresh : (n : ℕ) → n < moduleOf s .slots → cellAt end (slotAt (moduleOf s) n) ≡ freshSlot (initMask (moduleOf s) n)
+  unfolding firstTables firstWork
+  slots-fresh n h =
+      let l = slot-is s ws q false g room n h in
+      let z = none-yet n in
+      let e : slotOf begin n + 0 ≡ slotOf begin n = omega arith in
+      let r = ready-first s ws q false g room in
+      rw (slots-are s ws q false g room n)
+      (fresh-slot end (slotOf begin n) (initMask (moduleOf s) n) (mask-small s (fieldsOf s) (moduleOf s) n inits-are)
+      (inited s (fieldsOf s) begin (firstWork begin false) ws q r refl 1 (ordered-rest s q g) n l (length (ofTag 6 s (fieldsOf s))) (omega arith)
+      ∙ ap (initWord (initsIn s (fieldsOf s)) (length (ofTag 6 s (fieldsOf s))) n) (ap (λ (a : ℕ). getD ws a 0) (sym e) ∙ z 0 l (omega arith))
+      ∙ init-word s (fieldsOf s) (moduleOf s) (length (ofTag 6 s (fieldsOf s))) n shared-long inits-are)
+      (λ k a b. keeps s (fieldsOf s) begin (firstWork begin false) ws q (r .room) (slotOf begin n + k) (inner n k l (λ f. a) b refl) ∙ z k l (omega arith)))
+
+  pub fresh-index : Indexed s end
+  fresh-index = index-holds s ws q false g room (λ n h. omega (arith, no-mark n h))
+
+  pub all-fresh : Fresh s end
+  all-fresh =
+      record {
+        suspends = suspends-hold s ws q false g room;
+        slots = slots-fresh;
+        unwritten = λ n h. omega (arith, writes-stay s ws q false g room n h, no-mark n h);
+      }

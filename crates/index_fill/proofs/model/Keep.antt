@@ -17,7 +17,7 @@ use Rattle.definition.specs.Module.{initOf, chunksFrom}
 use Rattle.layout.specs.declared.Tables.{Tables}
 use Rattle.layout.specs.Layout.{numbersAt, rowField, wordCount, wordSuspends, headWords}
 use Rattle.index_fill.specs.declared.model.FillState.{FillState}
-use Rattle.index_fill.specs.model.Model.{areas, slotOf, numberWords, numbersOf, chunkWords, instrWords, siteWords, codeWords, codeWork, chunkWork, instrWork, markWords, initWords, slotWords, tablesAfter, wordsAfter, wordsFrom}
+use Rattle.index_fill.specs.model.Model.{areas, slotOf, numberWords, numbersOf, chunkWords, instrWords, siteWords, codeWords, codeWork, chunkWork, instrWork, withMark, markWords, initWords, slotWords, tablesAfter, wordsAfter, wordsFrom}
 use Rattle.index_fill.proofs.model.Room.{Room, room-after}
 
 -- a choice between words that agree
@@ -30,12 +30,23 @@ only : (b : Bool) (v ws : List ℕ) (a : ℕ) → (b ≡ true → getD v a 0 ≡
 only true v ws a x = x refl
 only false v ws a x = refl
 
+-- whether the slots stay is the same at every field
+pub keep-after : (tag : ℕ) (s : List ℕ) (p : ℕ) (t : Tables) (w : FillState) → codeWork tag s p t w .keep ≡ w .keep
+unfolding codeWork chunkWork instrWork
+keep-after tag s p t w = go (eqb tag 2) (eqb tag 3)
+  where
+    go : (b c : Bool) → cond b (chunkWork s p t w) (cond c (instrWork w) w) .keep ≡ w .keep
+    go true c = refl
+    go false true = refl
+    go false false = refl
+
 -- ---- what the slots' fields leave
 pub mark-keeps : (t : Tables) (n : ℕ) (ws : List ℕ) (a : ℕ) → (n < t .slots → a ≡ slotOf t n + 15 → ⊥) → getD (markWords t n ws) a 0 ≡ getD ws a 0
 unfolding markWords
 mark-keeps t n ws a h =
-    only (ltb n (t .slots)) (set ws (slotOf t n + 15) 65536) ws a
-    (λ l. getD-set-other ws (slotOf t n + 15) a 65536 0 (h (ltb-true n (t .slots) l)))
+    let x = withMark (getD ws (slotOf t n + 15) 0) in
+    only (ltb n (t .slots)) (set ws (slotOf t n + 15) x) ws a
+    (λ l. getD-set-other ws (slotOf t n + 15) a x 0 (h (ltb-true n (t .slots) l)))
 
 pub init-keeps : (t : Tables) (m : Mask) (ws : List ℕ) (a : ℕ) → (t .shared + t .inits < t .slots → a ≡ slotOf t (t .shared + t .inits) → ⊥)
     → getD (initWords t m ws) a 0 ≡ getD ws a 0
@@ -44,22 +55,25 @@ init-keeps t m ws a h =
     only (ltb (t .shared + t .inits) (t .slots)) (set ws (slotOf t (t .shared + t .inits)) (m .bits)) ws a
     (λ l. getD-set-other ws (slotOf t (t .shared + t .inits)) a (m .bits) 0 (h (ltb-true (t .shared + t .inits) (t .slots) l)))
 
-slot-keeps : (tag : ℕ) (s : List ℕ) (p : ℕ) (t : Tables) (ws : List ℕ) (a : ℕ)
-    → ((k : ℕ) → k < t .slots → a ≡ slotOf t k + 15 → ⊥) → ((k : ℕ) → k < t .slots → a ≡ slotOf t k → ⊥)
-    → getD (slotWords tag s p t ws) a 0 ≡ getD ws a 0
+slot-keeps : (tag : ℕ) (s : List ℕ) (p : ℕ) (t : Tables) (keep : Bool) (ws : List ℕ) (a : ℕ)
+    → ((k : ℕ) → k < t .slots → a ≡ slotOf t k + 15 → ⊥) → (keep ≡ false → (k : ℕ) → k < t .slots → a ≡ slotOf t k → ⊥)
+    → getD (slotWords tag s p t keep ws) a 0 ≡ getD ws a 0
 unfolding slotWords
-slot-keeps tag s p t ws a x y =
-    either (eqb tag 7) _ _ ws a (mark-keeps t (at16 s (p + 3)) ws a (x (at16 s (p + 3))))
-    (either (eqb tag 8) _ ws ws a (init-keeps t (initOf s p) ws a (y (t .shared + t .inits))) refl)
+slot-keeps tag s p t keep ws a x y =
+    either (eqb tag 7) _ _ ws a (mark-keeps t (at16 s (p + 3)) ws a (x (at16 s (p + 3)))) (either (eqb tag 8) _ ws ws a (inits keep y) refl)
+  where
+    inits : (b : Bool) → (b ≡ false → (k : ℕ) → k < t .slots → a ≡ slotOf t k → ⊥) → getD (cond b ws (initWords t (initOf s p) ws)) a 0 ≡ getD ws a 0
+    inits true h = refl
+    inits false h = init-keeps t (initOf s p) ws a (h refl (t .shared + t .inits))
 
 -- outside the slots only the chunks' fields count
 pub outside : (s : List ℕ) (p : ℕ) (t : Tables) (w : FillState) (ws : List ℕ) (a : ℕ) → (a < headWords + 16 * t .chunks) ⊎ (areas t ≤ a)
     → getD (wordsAfter s p t w ws) a 0 ≡ getD (codeWords (tagAt s p) s p t w ws) a 0
 unfolding wordsAfter
 outside s p t w ws a (inl h) =
-    slot-keeps (tagAt s p) s p t (codeWords (tagAt s p) s p t w ws) a (λ k d e. omega arith) (λ k d e. omega arith)
+    slot-keeps (tagAt s p) s p t (w .keep) (codeWords (tagAt s p) s p t w ws) a (λ k d e. omega arith) (λ f k d e. omega arith)
 outside s p t w ws a (inr h) =
-    slot-keeps (tagAt s p) s p t (codeWords (tagAt s p) s p t w ws) a (λ k d e. omega arith) (λ k d e. omega arith)
+    slot-keeps (tagAt s p) s p t (w .keep) (codeWords (tagAt s p) s p t w ws) a (λ k d e. omega arith) (λ f k d e. omega arith)
 
 -- ---- what the chunks' fields leave
 module _ (s : List ℕ) (p : ℕ) (ps : List ℕ) (t : Tables) (w : FillState) (ws : List ℕ) (n : ℕ) (r : Room s (p ∷ ps) t w n) where
@@ -82,10 +96,11 @@ module _ (s : List ℕ) (p : ℕ) (ps : List ℕ) (t : Tables) (w : FillState) (
           (getD-set-other (set ws (w .free + rowField) p) (w .numbers + wordCount) a (w .instrs + 1) 0 i ∙ getD-set-other ws (w .free + rowField) a p 0 f)
           (either (eqb (tagAt s p) 4) _ ws ws a (getD-set-other ws (w .numbers + wordSuspends) a 1 0 j) refl)
 
--- ---- words that are not written any more: numbers of the chunks seen, the inner words of a slot, rows before the free word
+-- ---- words that are not written any more: numbers of the chunks seen, the words of a slot but its mark's and, where there are initializers to
+-- write, the first, rows before the free word
 pub data Kept (t : Tables) (w : FillState) (a : ℕ) : Type 0 where
   number : a < numbersAt (w .seen) → (a ≡ w .numbers + wordCount → ⊥) → (a ≡ w .numbers + wordSuspends → ⊥) → Kept t w a
-  inner : (k j : ℕ) → k < t .slots → 0 < j → j < 15 → a ≡ slotOf t k + j → Kept t w a
+  inner : (k j : ℕ) → k < t .slots → (w .keep ≡ false → 0 < j) → j < 15 → a ≡ slotOf t k + j → Kept t w a
   row : areas t ≤ a → a < w .free → Kept t w a
 
 module _ (s : List ℕ) (p : ℕ) (ps : List ℕ) (t : Tables) (w : FillState) (ws : List ℕ) (n : ℕ) (r : Room s (p ∷ ps) t w n) where
@@ -95,7 +110,7 @@ module _ (s : List ℕ) (p : ℕ) (ps : List ℕ) (t : Tables) (w : FillState) (
       outside s p t w ws a (inl (omega arith))
       ∙ code-keeps s p ps t w ws n r a (λ h. inl l) (λ e. omega arith) i j
   kept-after a (inner k j h x y e) =
-      slot-keeps (tagAt s p) s p t (codeWords (tagAt s p) s p t w ws) a (λ i d q. omega arith) (λ i d q. omega arith)
+      slot-keeps (tagAt s p) s p t (w .keep) (codeWords (tagAt s p) s p t w ws) a (λ i d q. omega arith) (λ f i d q. omega (arith, x f))
       ∙ code-keeps s p ps t w ws n r a (λ d. inr (omega arith)) (λ q. omega arith) (λ q. omega arith) (λ q. omega arith)
   kept-after a (row l h) =
       outside s p t w ws a (inr l)

@@ -17,9 +17,9 @@ use Rattle.definition.specs.Data.{member}
 use Rattle.form_laws.specs.Order.{ordered}
 use Rattle.layout.specs.declared.Tables.{Tables}
 use Rattle.index_fill.specs.declared.model.FillState.{FillState}
-use Rattle.index_fill.specs.model.Model.{slotOf, oneMore, codeWords, codeWork, markWords, initWords, slotWords, tablesAfter, wordsAfter, wordsFrom}
+use Rattle.index_fill.specs.model.Model.{slotOf, oneMore, codeWords, codeWork, withMark, markWords, initWords, slotWords, tablesAfter, wordsAfter, wordsFrom}
 use Rattle.index_fill.proofs.model.Room.{room-after}
-use Rattle.index_fill.proofs.model.Keep.{code-keeps, mark-keeps, init-keeps}
+use Rattle.index_fill.proofs.model.Keep.{code-keeps, mark-keeps, init-keeps, keep-after}
 use Rattle.index_fill.proofs.model.AtWork.{FillReady, ready, length-code}
 use Rattle.index_fill.proofs.model.Orderly.{no-shared, rest-ordered}
 
@@ -27,11 +27,15 @@ use Rattle.index_fill.proofs.model.Orderly.{no-shared, rest-ordered}
 abbrev pub placedIn : List ℕ → List ℕ → List ℕ
 placedIn s ps = map (λ p. at16 s (p + 3)) (ofTag 7 s ps)
 
-two-marks : (b c : Bool) (x n : ℕ) → cond c x (cond b x n) ≡ cond (b || c) x n
-two-marks true true x n = refl
-two-marks true false x n = refl
-two-marks false true x n = refl
-two-marks false false x n = refl
+-- a word, with the mark if there is a placement
+abbrev pub markIf : Bool → ℕ → ℕ
+markIf b n = cond b (withMark n) n
+
+two-marks : (b c : Bool) (n : ℕ) → markIf c (markIf b n) ≡ markIf (b || c) n
+two-marks true true n = omega arith
+two-marks true false n = refl
+two-marks false true n = refl
+two-marks false false n = refl
 
 -- the word k - b of the initializers, from the slot b on
 abbrev pub initWord : List ℕ → ℕ → ℕ → ℕ → ℕ
@@ -68,34 +72,34 @@ module _ (s : List ℕ) (p : ℕ) (ps : List ℕ) (t : Tables) (w : FillState) (
   slot-fits = omega (arith, length-code (tagAt s p) s p t w ws)
 
   -- ---- the mark
-  mark-one : (x : ℕ) → getD (markWords t x vs) (slotOf t k + 15) 0 ≡ cond (eqb x k) 65536 (getD vs (slotOf t k + 15) 0)
+  mark-one : (x : ℕ) → getD (markWords t x vs) (slotOf t k + 15) 0 ≡ markIf (eqb x k) (getD vs (slotOf t k + 15) 0)
   unfolding markWords
   mark-one x = go (eqb x k) refl
     where
-      go : (b : Bool) → eqb x k ≡ b → getD (markWords t x vs) (slotOf t k + 15) 0 ≡ cond b 65536 (getD vs (slotOf t k + 15) 0)
-      go true e =
-          rw (eqb-true x k e, lt-ltb k (t .slots) l) (getD-set-same vs (slotOf t k + 15) 65536 0 (omega (arith, slot-fits)))
+      go : (b : Bool) → eqb x k ≡ b → getD (markWords t x vs) (slotOf t k + 15) 0 ≡ markIf b (getD vs (slotOf t k + 15) 0)
+      go true e = rw (eqb-true x k e, lt-ltb k (t .slots) l) (getD-set-same vs (slotOf t k + 15) _ 0 (omega (arith, slot-fits)))
       go false e = mark-keeps t x vs (slotOf t k + 15) (λ d q. eqb-false x k e (omega arith))
 
-  mark-after : getD (wordsAfter s p t w ws) (slotOf t k + 15) 0 ≡ cond (eqb (tagAt s p) 7) (cond (eqb (at16 s (p + 3)) k) 65536 (getD ws (slotOf t k + 15) 0)) (getD ws (slotOf t k + 15) 0)
+  mark-after : getD (wordsAfter s p t w ws) (slotOf t k + 15) 0 ≡ cond (eqb (tagAt s p) 7) (markIf (eqb (at16 s (p + 3)) k) (getD ws (slotOf t k + 15) 0)) (getD ws (slotOf t k + 15) 0)
   unfolding wordsAfter slotWords
-  mark-after = go (eqb (tagAt s p) 7) (eqb (tagAt s p) 8)
+  mark-after = go (eqb (tagAt s p) 7) (eqb (tagAt s p) 8) (w .keep)
     where
-      go : (b c : Bool) → getD (cond b (markWords t (at16 s (p + 3)) vs) (cond c (initWords t (initOf s p) vs) vs)) (slotOf t k + 15) 0 ≡ cond b (cond (eqb (at16 s (p + 3)) k) 65536 (getD ws (slotOf t k + 15) 0)) (getD ws (slotOf t k + 15) 0)
-      go true c = mark-one (at16 s (p + 3)) ∙ ap (cond (eqb (at16 s (p + 3)) k) 65536) (code-leaves (slotOf t k + 15) (omega arith) (omega arith))
-      go false true = init-keeps t (initOf s p) vs (slotOf t k + 15) (λ d q. omega arith) ∙ code-leaves (slotOf t k + 15) (omega arith) (omega arith)
-      go false false = code-leaves (slotOf t k + 15) (omega arith) (omega arith)
+      go : (b c d : Bool) → getD (cond b (markWords t (at16 s (p + 3)) vs) (cond c (cond d vs (initWords t (initOf s p) vs)) vs)) (slotOf t k + 15) 0 ≡ cond b (markIf (eqb (at16 s (p + 3)) k) (getD ws (slotOf t k + 15) 0)) (getD ws (slotOf t k + 15) 0)
+      go true c d = mark-one (at16 s (p + 3)) ∙ ap (λ (n : ℕ). markIf (eqb (at16 s (p + 3)) k) n) (code-leaves (slotOf t k + 15) (omega arith) (omega arith))
+      go false true true = code-leaves (slotOf t k + 15) (omega arith) (omega arith)
+      go false true false = init-keeps t (initOf s p) vs (slotOf t k + 15) (λ d q. omega arith) ∙ code-leaves (slotOf t k + 15) (omega arith) (omega arith)
+      go false false d = code-leaves (slotOf t k + 15) (omega arith) (omega arith)
 
-  mark-turn : (word : ℕ) → word ≡ cond (member k (placedIn s ps)) 65536 (getD (wordsAfter s p t w ws) (slotOf t k + 15) 0)
-      → word ≡ cond (member k (placedIn s (p ∷ ps))) 65536 (getD ws (slotOf t k + 15) 0)
+  mark-turn : (word : ℕ) → word ≡ markIf (member k (placedIn s ps)) (getD (wordsAfter s p t w ws) (slotOf t k + 15) 0)
+      → word ≡ markIf (member k (placedIn s (p ∷ ps))) (getD ws (slotOf t k + 15) 0)
   unfolding ofTag member
-  mark-turn word h = h ∙ ap (cond (member k (placedIn s ps)) 65536) mark-after ∙ go (eqb (tagAt s p) 7)
+  mark-turn word h = h ∙ ap (λ (n : ℕ). markIf (member k (placedIn s ps)) n) mark-after ∙ go (eqb (tagAt s p) 7)
     where
       old : ℕ
       old = getD ws (slotOf t k + 15) 0
 
-      go : (b : Bool) → cond (member k (placedIn s ps)) 65536 (cond b (cond (eqb (at16 s (p + 3)) k) 65536 old) old) ≡ cond (member k (map (λ p. at16 s (p + 3)) (cond b (p ∷ ofTag 7 s ps) (ofTag 7 s ps)))) 65536 old
-      go true = two-marks (eqb (at16 s (p + 3)) k) (member k (placedIn s ps)) 65536 old
+      go : (b : Bool) → markIf (member k (placedIn s ps)) (cond b (markIf (eqb (at16 s (p + 3)) k) old) old) ≡ markIf (member k (map (λ p. at16 s (p + 3)) (cond b (p ∷ ofTag 7 s ps) (ofTag 7 s ps)))) old
+      go true = two-marks (eqb (at16 s (p + 3)) k) (member k (placedIn s ps)) old
       go false = refl
 
   -- ---- the initializer
@@ -108,25 +112,25 @@ module _ (s : List ℕ) (p : ℕ) (ps : List ℕ) (t : Tables) (w : FillState) (
           rw (← eqb-true k (t .shared + t .inits) e, lt-ltb k (t .slots) l) (getD-set-same vs (slotOf t k) (m .bits) 0 (omega (arith, slot-fits)))
       go false e = init-keeps t m vs (slotOf t k) (λ d q. eqb-false k (t .shared + t .inits) e (omega arith))
 
-  init-after : getD (wordsAfter s p t w ws) (slotOf t k) 0 ≡ cond (eqb (tagAt s p) 8) (cond (eqb k (t .shared + t .inits)) (initOf s p .bits) (getD ws (slotOf t k) 0)) (getD ws (slotOf t k) 0)
+  init-after : w .keep ≡ false → getD (wordsAfter s p t w ws) (slotOf t k) 0 ≡ cond (eqb (tagAt s p) 8) (cond (eqb k (t .shared + t .inits)) (initOf s p .bits) (getD ws (slotOf t k) 0)) (getD ws (slotOf t k) 0)
   unfolding wordsAfter slotWords
-  init-after = go (eqb (tagAt s p) 7) (eqb (tagAt s p) 8) refl refl
+  init-after = go (eqb (tagAt s p) 7) (eqb (tagAt s p) 8) (w .keep) refl refl
     where
       same : getD vs (slotOf t k) 0 ≡ getD ws (slotOf t k) 0
       same = code-leaves (slotOf t k) (omega arith) (omega arith)
 
-      go : (b c : Bool) → eqb (tagAt s p) 7 ≡ b → eqb (tagAt s p) 8 ≡ c
-          → getD (cond b (markWords t (at16 s (p + 3)) vs) (cond c (initWords t (initOf s p) vs) vs)) (slotOf t k) 0 ≡ cond c (cond (eqb k (t .shared + t .inits)) (initOf s p .bits) (getD ws (slotOf t k) 0)) (getD ws (slotOf t k) 0)
-      go true true e f = absurd (omega (arith, eqb-true (tagAt s p) 7 e, eqb-true (tagAt s p) 8 f))
-      go true false e f = mark-keeps t (at16 s (p + 3)) vs (slotOf t k) (λ d q. omega arith) ∙ same
-      go false true e f = init-one (initOf s p) ∙ ap (cond (eqb k (t .shared + t .inits)) (initOf s p .bits)) same
-      go false false e f = same
+      go : (b c d : Bool) → eqb (tagAt s p) 7 ≡ b → eqb (tagAt s p) 8 ≡ c → d ≡ false
+          → getD (cond b (markWords t (at16 s (p + 3)) vs) (cond c (cond d vs (initWords t (initOf s p) vs)) vs)) (slotOf t k) 0 ≡ cond c (cond (eqb k (t .shared + t .inits)) (initOf s p .bits) (getD ws (slotOf t k) 0)) (getD ws (slotOf t k) 0)
+      go true true d e f g = absurd (omega (arith, eqb-true (tagAt s p) 7 e, eqb-true (tagAt s p) 8 f))
+      go true false d e f g = mark-keeps t (at16 s (p + 3)) vs (slotOf t k) (λ d q. omega arith) ∙ same
+      go false true d e f g = rw g (init-one (initOf s p) ∙ ap (cond (eqb k (t .shared + t .inits)) (initOf s p .bits)) same)
+      go false false d e f g = same
 
-  init-turn : (word b last : ℕ) → ordered s last (p ∷ ps) ≡ true → b ≡ t .shared + length (ofTag 6 s (p ∷ ps)) + t .inits
+  init-turn : (word b last : ℕ) → w .keep ≡ false → ordered s last (p ∷ ps) ≡ true → b ≡ t .shared + length (ofTag 6 s (p ∷ ps)) + t .inits
       → ((c : ℕ) → c ≡ oneMore (eqb (tagAt s p) 6) (t .shared) + length (ofTag 6 s ps) + oneMore (eqb (tagAt s p) 8) (t .inits) → word ≡ initWord (initsIn s ps) c k (getD (wordsAfter s p t w ws) (slotOf t k) 0))
       → word ≡ initWord (initsIn s (p ∷ ps)) b k (getD ws (slotOf t k) 0)
   unfolding ofTag
-  init-turn word b last o h ih = go (eqb (tagAt s p) 6) (eqb (tagAt s p) 8) refl refl
+  init-turn word b last fresh o h ih = go (eqb (tagAt s p) 6) (eqb (tagAt s p) 8) refl refl
     where
       old : ℕ
       old = getD ws (slotOf t k) 0
@@ -136,11 +140,11 @@ module _ (s : List ℕ) (p : ℕ) (ps : List ℕ) (t : Tables) (w : FillState) (
       go true false e f =
           let g = rw e at h in
           let next = rw (e, f) at ih in
-          rw f (next b (omega arith) ∙ ap (initWord (initsIn s ps) b k) (rw f at init-after))
+          rw f (next b (omega arith) ∙ ap (initWord (initsIn s ps) b k) (rw f at (init-after fresh)))
       go false false e f =
           let g = rw e at h in
           let next = rw (e, f) at ih in
-          rw f (next b (omega arith) ∙ ap (initWord (initsIn s ps) b k) (rw f at init-after))
+          rw f (next b (omega arith) ∙ ap (initWord (initsIn s ps) b k) (rw f at (init-after fresh)))
       go false true e f =
           let z : ofTag 6 s ps ≡ [] = no-shared s (tagAt s p) ps (omega (arith, eqb-true (tagAt s p) 8 f)) (rest-ordered s last p ps o) in
           let g = rw (e, z) at h in
@@ -148,11 +152,11 @@ module _ (s : List ℕ) (p : ℕ) (ps : List ℕ) (t : Tables) (w : FillState) (
           let next = rw (e, f, z) at ih in
           rw f
           (next (suc b) (omega arith)
-          ∙ ap (initWord (initsIn s ps) (suc b) k) (rw (f, ← q) at init-after)
+          ∙ ap (initWord (initsIn s ps) (suc b) k) (rw (f, ← q) at (init-after fresh))
           ∙ one-init (initOf s p .bits) (initsIn s ps) b k old)
 
 pub marked : (s ps : List ℕ) (t : Tables) (w : FillState) (ws : List ℕ) (n : ℕ) → FillReady s ps t w ws n → (k : ℕ) → k < t .slots
-    → getD (wordsFrom s ps t w ws) (slotOf t k + 15) 0 ≡ cond (member k (placedIn s ps)) 65536 (getD ws (slotOf t k + 15) 0)
+    → getD (wordsFrom s ps t w ws) (slotOf t k + 15) 0 ≡ markIf (member k (placedIn s ps)) (getD ws (slotOf t k + 15) 0)
 unfolding wordsFrom ofTag member tablesAfter
 marked s [] t w ws n r k l = refl
 marked s (p ∷ ps) t w ws n r k l =
@@ -161,18 +165,18 @@ marked s (p ∷ ps) t w ws n r k l =
     mark-turn s p ps t w ws n r k l _
     (marked s ps u v (wordsAfter s p t w ws) n (ready s p ps t w ws n r v (room-after s p ps t w n (r .room))) k l)
 
-pub inited : (s ps : List ℕ) (t : Tables) (w : FillState) (ws : List ℕ) (n : ℕ) → FillReady s ps t w ws n → (last : ℕ) → ordered s last ps ≡ true → (k : ℕ) → k < t .slots
+pub inited : (s ps : List ℕ) (t : Tables) (w : FillState) (ws : List ℕ) (n : ℕ) → FillReady s ps t w ws n → w .keep ≡ false → (last : ℕ) → ordered s last ps ≡ true → (k : ℕ) → k < t .slots
     → (b : ℕ) → b ≡ t .shared + length (ofTag 6 s ps) + t .inits
     → getD (wordsFrom s ps t w ws) (slotOf t k) 0 ≡ initWord (initsIn s ps) b k (getD ws (slotOf t k) 0)
 unfolding wordsFrom ofTag tablesAfter
-inited s [] t w ws n r last o k l b h = nothing (leb b k) (k - b)
+inited s [] t w ws n r fresh last o k l b h = nothing (leb b k) (k - b)
   where
     nothing : (x : Bool) (i : ℕ) → getD ws (slotOf t k) 0 ≡ cond x (getD [] i (getD ws (slotOf t k) 0)) (getD ws (slotOf t k) 0)
     nothing true zero = refl
     nothing true (suc i) = refl
     nothing false i = refl
-inited s (p ∷ ps) t w ws n r last o k l b h =
+inited s (p ∷ ps) t w ws n r fresh last o k l b h =
     let u = tablesAfter (tagAt s p) s p t in
     let v = codeWork (tagAt s p) s p t w in
-    init-turn s p ps t w ws n r k l _ b last o h
-    (inited s ps u v (wordsAfter s p t w ws) n (ready s p ps t w ws n r v (room-after s p ps t w n (r .room))) (tagAt s p) (rest-ordered s last p ps o) k l)
+    init-turn s p ps t w ws n r k l _ b last fresh o h
+    (inited s ps u v (wordsAfter s p t w ws) n (ready s p ps t w ws n r v (room-after s p ps t w n (r .room))) (keep-after (tagAt s p) s p t w ∙ fresh) (tagAt s p) (rest-ordered s last p ps o) k l)

@@ -1,12 +1,12 @@
 -- The walk that fills the index, as functions of the fields: what each field writes, and what the walk knows behind it.
-use Prim.Native.Nat.{ℕ, suc, _+_, _*_, _/_, _^_}
+use Prim.Native.Nat.{ℕ, zero, suc, _+_, _*_, _/_, _%_, _^_}
 use mathlib.Core.Bool.{Bool, false, cond, _&&_, _||_}
 use mathlib.Core.List.{List, [], _∷_}
 use lib.Dec.{eqb, ltb}
-use lib.ListN.{set}
+use lib.ListN.{getD, set}
 use Rattle.le.specs.Le.{at16}
 use Rattle.masks.specs.declared.Mask.{Mask}
-use Rattle.description.specs.Fields.{tagAt, headerOf, chunkOf}
+use Rattle.description.specs.Fields.{tagAt, nextAt, headerOf, chunkOf, fieldsFrom}
 use Rattle.words.specs.Layout.{putN}
 use Rattle.definition.specs.Module.{flag, signedParams, initOf}
 use Rattle.layout.specs.declared.Tables.{Tables}
@@ -41,8 +41,8 @@ firstTables s queue =
 abbrev pub areas : Tables → ℕ
 areas t = headWords + 16 * (t .chunks + t .slots)
 
-unfoldable pub firstWork : Tables → FillState
-firstWork t = record { seen = 0; numbers = 0; instrs = 0; free = areas t; size = 0 }
+unfoldable pub firstWork : Tables → Bool → FillState
+firstWork t keep = record { seen = 0; numbers = 0; instrs = 0; free = areas t; size = 0; keep = keep }
 
 -- ---- tags 2 to 4: the chunks' numbers and rows
 abbrev pub paramsIn : List ℕ → ℕ → Tables → FillState → ℕ
@@ -90,6 +90,7 @@ chunkWork s p t w =
       instrs = 0;
       free = numbersOf s p t w .rows;
       size = numbersOf s p t w .size;
+      keep = w .keep;
     }
 
 -- the place of the instruction's field stands in its row
@@ -98,7 +99,7 @@ instrWords p w ws = set (set ws (w .free + rowField) p) (w .numbers + wordCount)
 
 unfoldable pub instrWork : FillState → FillState
 instrWork w =
-    record { seen = w .seen; numbers = w .numbers; instrs = w .instrs + 1; free = w .free + w .size; size = w .size }
+    record { seen = w .seen; numbers = w .numbers; instrs = w .instrs + 1; free = w .free + w .size; size = w .size; keep = w .keep }
 
 -- a chunk with a dialogue site suspends
 unfoldable pub siteWords : FillState → List ℕ → List ℕ
@@ -118,15 +119,25 @@ abbrev pub slotOf : Tables → ℕ → ℕ
 slotOf t n = headWords + 16 * t .chunks + 16 * n
 
 -- the mark of a placement stands above the writes of a round
+abbrev pub withMark : ℕ → ℕ
+withMark n = n % 65536 + 65536
+
 unfoldable pub markWords : Tables → ℕ → List ℕ → List ℕ
-markWords t n ws = cond (ltb n (t .slots)) (set ws (slotOf t n + 15) 65536) ws
+markWords t n ws = cond (ltb n (t .slots)) (set ws (slotOf t n + 15) (withMark (getD ws (slotOf t n + 15) 0))) ws
+
+-- no mark in the first n slots
+unfoldable pub unmarkedWords : Tables → ℕ → List ℕ → List ℕ
+unmarkedWords t zero ws = ws
+unmarkedWords t (suc n) ws =
+    let v = unmarkedWords t n ws in
+    set v (slotOf t n + 15) (getD v (slotOf t n + 15) 0 % 65536)
 
 unfoldable pub initWords : Tables → Mask → List ℕ → List ℕ
 initWords t m ws = cond (ltb (t .shared + t .inits) (t .slots)) (set ws (slotOf t (t .shared + t .inits)) (m .bits)) ws
 
-unfoldable pub slotWords : ℕ → List ℕ → ℕ → Tables → List ℕ → List ℕ
-slotWords tag s p t ws =
-    cond (eqb tag 7) (markWords t (at16 s (p + 3)) ws) (cond (eqb tag 8) (initWords t (initOf s p) ws) ws)
+unfoldable pub slotWords : ℕ → List ℕ → ℕ → Tables → Bool → List ℕ → List ℕ
+slotWords tag s p t keep ws =
+    cond (eqb tag 7) (markWords t (at16 s (p + 3)) ws) (cond (eqb tag 8) (cond keep ws (initWords t (initOf s p) ws)) ws)
 
 -- ---- tags 5 to 8: the tables
 -- the place of the first of them
@@ -158,12 +169,17 @@ tablesAfter tag s p t =
 
 -- ---- a field, and all from here on
 unfoldable pub wordsAfter : List ℕ → ℕ → Tables → FillState → List ℕ → List ℕ
-wordsAfter s p t w ws = slotWords (tagAt s p) s p t (codeWords (tagAt s p) s p t w ws)
+wordsAfter s p t w ws = slotWords (tagAt s p) s p t (w .keep) (codeWords (tagAt s p) s p t w ws)
 
 unfoldable pub wordsFrom : List ℕ → List ℕ → Tables → FillState → List ℕ → List ℕ
 wordsFrom s [] t w ws = ws
 wordsFrom s (p ∷ ps) t w ws =
     wordsFrom s ps (tablesAfter (tagAt s p) s p t) (codeWork (tagAt s p) s p t w) (wordsAfter s p t w ws)
+
+-- all fields behind the header
+unfoldable pub walkedWords : List ℕ → ℕ → Bool → List ℕ → List ℕ
+walkedWords s queue keep ws =
+    wordsFrom s (fieldsFrom s (nextAt s 0)) (firstTables s queue) (firstWork (firstTables s queue) keep) ws
 
 unfoldable pub tablesFrom : List ℕ → List ℕ → Tables → Tables
 tablesFrom s [] t = t

@@ -8,17 +8,17 @@ use mathlib.Core.List.{List, [], _∷_, _++_}
 use borrow.Author.Count.{below-more}
 use lib.ListN.{length, drop}
 use lib.Seq.{drop-cons, drop-length}
-use Rattle.definition.specs.Res.{Res}
-use Rattle.definition.specs.Machine.{Joined, Effect, Where, due, enter}
+use Rattle.definition.specs.Machine.{Where, due, enter}
 use Rattle.definition.specs.Module.{Chunk, row, moduleOf}
-use Rattle.definition.specs.State.{State}
+use Rattle.definition.specs.State.{State, Facts, Live}
+use Rattle.definition.specs.Start.{start}
 use Rattle.form_laws.proofs.Each.{suc-out}
 use Rattle.form_laws.specs.Good.{noChunk, chunkNo}
 use Rattle.layout.specs.declared.Tables.{Tables}
 use Rattle.layout.specs.declared.Chunk.{Chunk as ChunkNumbers}
 use Rattle.layout.specs.Indexed.{tablesOf, chunkAt}
 use Rattle.layout.proofs.Read.{chunks-are}
-use Rattle.run_state.specs.Course.{statesIn, pastIn}
+use Rattle.run_state.specs.Course.{statesIn, pastIn, analysisIn}
 use Rattle.rounds.specs.entering.Reach.{NextReachable}
 
 -- ---- the search for it
@@ -64,15 +64,12 @@ chunks-from : (s : List ℕ) (n : ℕ) → n < length (moduleOf s .chunks) → d
 unfolding chunkNo
 chunks-from s n h = drop-cons (moduleOf s .chunks) n noChunk h
 
-module _ {F R G : Type 0} (join : State → State → Res (Joined State)) (cap : ℕ) (chunks : List Chunk) (start : Chunk → R → List (Option State))
-    (after : Chunk → List (Option State) → Option (ℕ × ℕ)) (open′ : R → F) (view : F → R) (absorb : F → G → F) (moved : F → Bool) (close : F → R)
-    (leaves : Bool → Chunk → R → ℕ → State → Res (Effect State G)) (s ws : List ℕ) (v : Bool)
-    (end : F → List (List (Option State)) → Where Chunk F R State) (f : F) where
+module _ (s ws : List ℕ) (v : Bool) (end : Live → List (List (Option State)) → Where Chunk Live Facts State) (f : Live) where
   -- the machine goes on from the chunk n
-  abbrev entersAt : ℕ → List (List (Option State)) → List Chunk → Where Chunk F R State
-  entersAt n past cs = enter join cap chunks (λ c. c .reachable) start after open′ view absorb moved close leaves v end n f past cs
+  abbrev entersAt : ℕ → List (List (Option State)) → List Chunk → Where Chunk Live Facts State
+  entersAt n past cs = enter (analysisIn s ws) v end n f past cs
 
-  abbrev entersFrom : ℕ → Where Chunk F R State
+  abbrev entersFrom : ℕ → Where Chunk Live Facts State
   entersFrom n = entersAt n (pastIn s ws n) (drop n (moduleOf s .chunks))
 
   step : (n : ℕ) → n < length (moduleOf s .chunks) → chunkNo (moduleOf s) n .reachable ≡ false → entersFrom n ≡ entersFrom (suc n)
@@ -102,7 +99,7 @@ module _ {F R G : Type 0} (join : State → State → Res (Joined State)) (cap :
         chunk = chunkNo (moduleOf s) r;
         rest = drop (suc r) (moduleOf s .chunks);
         past = pastIn s ws r;
-        states = start (chunkNo (moduleOf s) r) (view f);
+        states = start (chunkNo (moduleOf s) r) (f .known);
         queue = 0 ∷ [];
         facts = f;
       })

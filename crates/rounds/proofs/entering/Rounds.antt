@@ -10,12 +10,11 @@ use lib.Dec.{ltb}
 use lib.ListN.{length, drop}
 use Rattle.definition.specs.Machine.{Where, due, enter, finish}
 use Rattle.definition.specs.Module.{Chunk, row, moduleOf}
-use Rattle.definition.specs.State.{State, Facts, Live, join}
-use Rattle.definition.specs.Leaves.{leaves, absorb, opened, closed, moved}
-use Rattle.definition.specs.Start.{knownOf, start, afterChunk}
+use Rattle.definition.specs.State.{State, Facts, Live}
+use Rattle.definition.specs.Start.{knownOf}
 use Rattle.visit.specs.Held.{liveIn}
 use Rattle.run_state.specs.declared.Run.{Run}
-use Rattle.run_state.specs.Course.{finalIn, pastIn, roomIn, knownAs, Low, LowBefore, Prepared}
+use Rattle.run_state.specs.Course.{finalIn, pastIn, analysisIn, Low, LowBefore, Prepared}
 use Rattle.rounds.specs.declared.entering.Settled.the-variants.{Due, Done}
 use Rattle.rounds.specs.entering.Entering.{whereIn, Goes, Opened}
 use Rattle.rounds.specs.entering.Reach.{NextReachable}
@@ -23,29 +22,11 @@ use Rattle.rounds.proofs.entering.Reach.{enters-found, enters-none}
 use Rattle.rounds.specs.entering.Began.{entered, Began}
 
 -- the machine goes on from the chunk n, with the states of those before
-module _ (s ws : List ℕ) (cap : ℕ) (v : Bool) (end : Live → List (List (Option State)) → Where Chunk Live Facts State) where
-  abbrev pub entersIn : Live → List (List (Option State)) → ℕ → List Chunk → Where Chunk Live Facts State
-  entersIn f past n cs =
-      enter join cap (knownAs s .code .chunks) (λ c. c .reachable) start afterChunk opened (λ x. x .known) (absorb (knownAs s .code)) moved closed (leaves (knownAs s)) v
-      end n f past cs
-
-  pub enters-due : (changed : Bool) (n r : ℕ) → NextReachable s n r → r < length (moduleOf s .chunks)
-      → entersIn (liveIn s ws changed) (pastIn s ws n) n (drop n (moduleOf s .chunks)) ≡ due (entered s ws r v changed)
-  unfolding liveIn
-  enters-due changed n r x h =
-      enters-found join cap (knownAs s .code .chunks) start afterChunk opened (λ x. x .known) (absorb (knownAs s .code)) moved closed (leaves (knownAs s)) s ws v
-      end (liveIn s ws changed) n r x h
-
-  pub enters-end : (f : Live) (n r : ℕ) → NextReachable s n r → length (moduleOf s .chunks) ≤ r
-      → entersIn f (pastIn s ws n) n (drop n (moduleOf s .chunks)) ≡ end f (pastIn s ws (length (moduleOf s .chunks)))
-  enters-end f n r x h =
-      enters-none join cap (knownAs s .code .chunks) start afterChunk opened (λ x. x .known) (absorb (knownAs s .code)) moved closed (leaves (knownAs s)) s ws v
-      end f n r x h
-
--- all is done
-abbrev pub finishIn : List ℕ → ℕ → Live → List (List (Option State)) → Where Chunk Live Facts State
-finishIn s cap =
-    finish join cap (knownAs s .code .chunks) (λ c. c .reachable) start afterChunk opened (λ x. x .known) (absorb (knownAs s .code)) moved closed (leaves (knownAs s))
+pub enters-due : (s ws : List ℕ) (v : Bool) (end : Live → List (List (Option State)) → Where Chunk Live Facts State) (changed : Bool) (n r : ℕ)
+    → NextReachable s n r → r < length (moduleOf s .chunks)
+    → enter (analysisIn s ws) v end n (liveIn s ws changed) (pastIn s ws n) (drop n (moduleOf s .chunks)) ≡ due (entered s ws r v changed)
+unfolding liveIn
+enters-due s ws v end changed n r x h = enters-found s ws v end (liveIn s ws changed) n r x h
 
 -- the chunks that were passed have no states
 pub low-reached : (s ws : List ℕ) (n r : ℕ) → NextReachable s n r → LowBefore s ws n → LowBefore s ws r
@@ -65,12 +46,12 @@ module _ (s ws : List ℕ) (validating : Bool) (steps n : ℕ) (x : NextReachabl
   pub opens : (v : List ℕ) (r : Run) → n < length (moduleOf s .chunks) → Began s ws v n validating false steps r → Opened s ws v validating steps (Due r)
   unfolding Opened whereIn Goes knownOf pastIn row
   opens v r h b =
-      (ap due (b .machine) ∙ sym (enters-due s ws (roomIn s ws) validating (finishIn s (roomIn s ws)) false 0 n x h), (b .between, b .due, b .same-steps), b .long)
+      (ap due (b .machine) ∙ sym (enters-due s ws validating (finish (analysisIn s ws)) false 0 n x h), (b .between, b .due, b .same-steps), b .long)
 
   pub opens-none : Prepared s ws → length (moduleOf s .chunks) ≤ n → Opened s ws ws validating steps Done
   unfolding Opened whereIn Goes knownOf pastIn row finish finalIn liveIn
   opens-none p h =
-      (sym (enters-end s ws (roomIn s ws) validating (finishIn s (roomIn s ws)) (liveIn s ws false) 0 n x h), record { prepared = p; low = low }, refl)
+      (sym (enters-none s ws validating (finish (analysisIn s ws)) (liveIn s ws false) 0 n x h), record { prepared = p; low = low }, refl)
     where
       low : LowBefore s ws (length (moduleOf s .chunks))
       low =

@@ -4,27 +4,17 @@ use mathlib.Core.Path.{_≡_}
 use mathlib.Core.Bool.{Bool, false}
 use mathlib.Core.List.{List, []}
 use lib.ListN.{length}
-use Rattle.definition.specs.Machine.{Where, due, done, stop, Machine, enter, finish, settle}
+use Rattle.definition.specs.Machine.{Where, due, done, stop, Analysis, enter, finish}
 use Rattle.definition.specs.Module.{Chunk}
-use Rattle.definition.specs.State.{State, Facts, Live, join}
-use Rattle.definition.specs.Leaves.{Known, leaves, absorb, opened, closed, moved}
-use Rattle.definition.specs.Start.{start, afterChunk}
+use Rattle.definition.specs.State.{State, Facts, Live}
 use Rattle.visit.specs.Held.{liveIn}
-use Rattle.run_state.specs.Course.{machineIn, finalIn, roomIn, knownAs, Between, Ended}
+use Rattle.run_state.specs.Course.{machineIn, finalIn, analysisIn, Between, Ended}
 use Rattle.rounds.specs.declared.entering.Settled.{Settled}
 use Rattle.rounds.specs.declared.entering.Settled.the-variants.{Due, Done, Stop}
 
--- the machine's functions, with the rules of the definition
-module _ (k : Known) (cap : ℕ) where
-  abbrev pub settleOf : Machine Chunk Live State → Bool → Where Chunk Live Facts State
-  settleOf = settle join cap (k .code .chunks) (λ c. c .reachable) start afterChunk opened (λ x. x .known) (absorb (k .code)) moved closed (leaves k)
-
-  -- a pass over all chunks begins with these facts
-  abbrev pub openOf : Bool → Live → Where Chunk Live Facts State
-  openOf v f =
-      enter join cap (k .code .chunks) (λ c. c .reachable) start afterChunk opened (λ x. x .known) (absorb (k .code)) moved closed (leaves k) v
-      (finish join cap (k .code .chunks) (λ c. c .reachable) start afterChunk opened (λ x. x .known) (absorb (k .code)) moved closed (leaves k))
-      0 f [] (k .code .chunks)
+-- a pass over all chunks begins with these facts
+abbrev pub passFrom : {C F R S G : Type 0} → Analysis C F R S G → Bool → F → Where C F R S
+passFrom α v f = enter α v (finish α) 0 f [] (α .chunks)
 
 -- where the words and the answer stand
 unfoldable pub whereIn : List ℕ → List ℕ → Settled → Where Chunk Live Facts State
@@ -40,6 +30,6 @@ Goes s ws steps (Stop f) = f .steps ≡ steps
 
 unfoldable pub Opened : List ℕ → List ℕ → List ℕ → Bool → ℕ → Settled → Type 0
 Opened s ws v validating steps x =
-    (whereIn s v x ≡ openOf (knownAs s) (roomIn s ws) validating (liveIn s ws false))
+    (whereIn s v x ≡ passFrom (analysisIn s ws) validating (liveIn s ws false))
     × Goes s v steps x
     × (length v ≡ length ws)

@@ -1,8 +1,7 @@
 use denote.Ref.{now}
 use Rattle.definition.specs.Leaves.{gives}
 use Rattle.visit.specs.Held.{liveIn, visitIn}
-use Rattle.run_state.specs.Course.{roomIn}
-use Rattle.step.proofs.Steps.{adds-none, adds-here, nothing-written}
+use Rattle.step.proofs.Steps.{adds-none, adds-all, nothing-written}
 use Rattle.step.proofs.Faults.{entry-is}
 use mathlib.Core.Path.{_∙_}
 use borrow.Author.Needs.{needs}
@@ -15,7 +14,8 @@ use Rattle.fact_join.proofs.give.Reads as give-reads
 -- src/lib.rt:121:9
 returns : tie.Need-returns
 returns c =
-    (nothing-written _ _, adds-none _ _ _ _ _ (c .if1 .taken))
+    let a = c .before .before .before .args in
+    (nothing-written _ _, adds-none (now (a .s)) (now (a .ws)) _ _ (gives (visitIn (now (a .s)) (now (a .ws)) (a .v))) (c .if1 .taken))
 
 -- src/lib.rt:123:5
 give-requires : tie.Need-give-requires
@@ -32,7 +32,7 @@ returns-2 : tie.Need-returns-2
 returns-2 c =
     let a = c .before .before .before .before .before .before .before .before .before .args in (
       c .before .before .give .ensures .0,
-      c .before .before .give .ensures .1 ∙ adds-here (now (a .s)) (roomIn (now (a .s)) (now (a .ws))) (a .r .validating) (liveIn (now (a .s)) (now (a .ws)) (a .r .changed)) (gives (visitIn (now (a .s)) (now (a .ws)) (a .v))) (c .before .before .before .before .before .before .if1 .left),
+      c .before .before .give .ensures .1 ∙ adds-all (now (a .s)) (now (a .ws)) (a .r .validating) (liveIn (now (a .s)) (now (a .ws)) (a .r .changed)) (gives (visitIn (now (a .s)) (now (a .ws)) (a .v))) (c .before .before .before .before .before .before .if1 .left),
     )
 
 pub give-in-rounds-spec : {M : Type 1} → statement M

@@ -1,0 +1,4 @@
+pub mod Decides
+pub mod Low
+pub mod Entries
+pub mod GoOn

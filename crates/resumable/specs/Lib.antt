@@ -1,0 +1,3 @@
+pub mod Decides
+pub mod Resumable
+pub mod faultless
