@@ -14,7 +14,7 @@ use Rattle.layout.proofs.Read.{count-is}
 use Rattle.run_state.specs.declared.Run.{Run}
 use Rattle.run_state.specs.Course.{Prepared, LowBefore}
 use Rattle.resumable.specs.Decides.{Decides}
-use Rattle.resumable.specs.Resumable.{CanGoOn, LowReached, EntriesBelow, Due}
+use Rattle.resumable.specs.Resumable.{CanGoOn, LowReached, EntriesBelow, QueueDue}
 use Rattle.resumable.proofs.Decides.{reworded, both, flag-decided}
 
 pub base-is : (s : List ℕ) (t : Tables) → t ≡ tablesOf s → t .«queue_at» ≡ wordsOf (moduleOf s)
@@ -34,12 +34,12 @@ module _ (s ws : List ℕ) (t : Tables) (p : Prepared s ws) (e : t ≡ tablesOf 
   -- an entry of the chunk at work is due, its rows are low and those of the chunks before it, and it is reachable
   abbrev Found : Type 0
   Found =
-      ((Due ws (t .«queue_at») (r .queue) (ch .count) × LowReached s ws (r .chunk)) × LowBefore s ws (r .chunk)) × (ch .reachable ≡ true)
+      ((QueueDue ws (t .«queue_at») (r .queue) (ch .count) × LowReached s ws (r .chunk)) × LowBefore s ws (r .chunk)) × (ch .reachable ≡ true)
 
   found-on : Found → CanGoOn s ws r
   unfolding CanGoOn EntriesBelow LowReached
   found-on f =
-      let d : Due ws (wordsOf (moduleOf s)) (r .queue) (length (chunkNo (moduleOf s) (r .chunk) .code)) = rw (base-is s t e, count-is s ws (r .chunk) ch n) at (f .0 .0 .0) in
+      let d : QueueDue ws (wordsOf (moduleOf s)) (r .queue) (length (chunkNo (moduleOf s) (r .chunk) .code)) = rw (base-is s t e, count-is s ws (r .chunk) ch n) at (f .0 .0 .0) in
       let q = sym reachable-is ∙ f .1 in (
         record {
           prepared = p;
@@ -56,10 +56,10 @@ module _ (s ws : List ℕ) (t : Tables) (p : Prepared s ws) (e : t ≡ tablesOf 
   unfolding CanGoOn EntriesBelow LowReached
   on-found g =
       let b = g .0 in
-      let d : Due ws (wordsOf (moduleOf s)) (r .queue) (length (chunkNo (moduleOf s) (r .chunk) .code)) = record { ready = b .queued .ready; some = g .1; entries = b .queued .entries } in
+      let d : QueueDue ws (wordsOf (moduleOf s)) (r .queue) (length (chunkNo (moduleOf s) (r .chunk) .code)) = record { ready = b .queued .ready; some = g .1; entries = b .queued .entries } in
       (((rw (base-is s t e, count-is s ws (r .chunk) ch n) d, λ q. b .low), b .before), reachable-is ∙ b .reachable)
 
-  pub go-decided : (due low before : Bool) → Decides due (Due ws (t .«queue_at») (r .queue) (ch .count)) → Decides low (LowReached s ws (r .chunk))
+  pub go-decided : (due low before : Bool) → Decides due (QueueDue ws (t .«queue_at») (r .queue) (ch .count)) → Decides low (LowReached s ws (r .chunk))
       → Decides before (LowBefore s ws (r .chunk)) → Decides (((due && low) && before) && ch .reachable) (CanGoOn s ws r)
   go-decided due low before d l b =
       reworded found-on on-found (both (both (both d l) b) (flag-decided (ch .reachable)))

@@ -24,7 +24,7 @@ unfoldable pub EntriesBelow : List ℕ → ℕ → Queue → ℕ → Type 0
 EntriesBelow ws base q n = (k : ℕ) → k < q .count → entryAt ws base (capOf ws base) (q .head) k < n
 
 -- a queue with entries, in the words from base on, for a chunk of n instructions
-pub record Due (ws : List ℕ) (base : ℕ) (q : Queue) (n : ℕ) : Type 0 where
+pub record QueueDue (ws : List ℕ) (base : ℕ) (q : Queue) (n : ℕ) : Type 0 where
   pub ready : QueueReady ws base q
   pub some : 0 < q .count
   pub entries : EntriesBelow ws base q n

@@ -20,7 +20,7 @@ ghost use Rattle.definition.specs.Module.{moduleOf};
 ghost use Rattle.layout.specs.Indexed.{Indexed, tablesOf};
 ghost use Rattle.run_state.specs.Course.{Prepared, LowBefore};
 ghost use Rattle.resumable.specs.Decides.{Decides};
-ghost use Rattle.resumable.specs.Resumable.{CanGoOn, LowReached, EntriesBelow, Due};
+ghost use Rattle.resumable.specs.Resumable.{CanGoOn, LowReached, EntriesBelow, QueueDue};
 
 // No recorded stack of the chunk is higher than D (the first word of a row is its height and one); a chunk that isn't reachable has none.
 fn rows_low(s: &[u8], ws: &[u32], c: usize) -> bool
@@ -83,7 +83,7 @@ fn entries_below(ws: &[u32], base: usize, q: Queue, count: usize) -> bool
 // An entry is due, and all entries are instructions of the chunk.
 fn is_due(ws: &[u32], base: usize, q: Queue, count: usize) -> bool
     requires { ⌜ base ≤ length (now ws) ⌝ }
-    ensures { λ x. ⌜ Decides x (Due (now (ws .entry)) base q count) ⌝ }
+    ensures { λ x. ⌜ Decides x (QueueDue (now (ws .entry)) base q count) ⌝ }
 {
     if is_ready(ws, base, q) {
         return (0 < q.count) & entries_below(ws, base, q, count);

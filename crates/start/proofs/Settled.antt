@@ -39,7 +39,7 @@ use Rattle.run_state.specs.Course.{Prepared, knownAs}
 use Rattle.run_state.proofs.Rows.{row-same}
 use Rattle.start.specs.admitting.Admitting.{found}
 use Rattle.start.proofs.admitting.Chunks.{found-none}
-use Rattle.start.specs.suspending.Suspending.{suspendsIn, Marked}
+use Rattle.start.specs.suspending.Suspending.{suspendsIn, NumbersOnly}
 use Rattle.start.specs.declared.Started.{Started}
 use Rattle.start.specs.declared.Started.the-variants.{Ready, Refused}
 use Rattle.start.specs.Starting.{SitesSuspend, Reknown, StartedAs, RebuiltAs}
@@ -72,7 +72,7 @@ pub record Writes (s ws : List ℕ) (reply : Cell) (v2 v3 : List ℕ) : Type 0 w
   pub is : reply ≡ replyCell (moduleOf s) (firstFacts (moduleOf s))
   pub puts : v2 ≡ putCell ws 0 reply
   pub fit : Storable reply
-  pub marked : Marked s v2 v3
+  pub marked : NumbersOnly s v2 v3
   pub suspends : suspendsIn s v3 ≡ suspendLoop (length (moduleOf s .chunks)) (moduleOf s .chunks) (suspendsIn s v2)
 
 module _ (s ws : List ℕ) (x : Indexed s ws) (sites : SitesSuspend s ws) (room : wordsOf (moduleOf s) < length ws) (reply : Cell) (v2 v3 : List ℕ) (w : Writes s ws reply v2 v3) where
@@ -234,7 +234,7 @@ module _ (s ws : List ℕ) (x : Indexed s ws) where
 pub all-rebuilt : (s ws v2 v3 : List ℕ) (t : Tables) (reply : Cell) (size : Size) (r : Started) → Indexed s ws → SitesSuspend s ws → wordsOf (moduleOf s) < length ws
     → t ≡ tablesOf s → admitted (moduleOf s) (moduleOf s .chunks) ≡ none
     → reply ≡ replyCell (moduleOf s) (firstFacts (moduleOf s)) → (v2 ≡ putCell ws 0 reply) × Storable reply
-    → Marked s v2 v3 × (suspendsIn s v3 ≡ suspendLoop (length (moduleOf s .chunks)) (moduleOf s .chunks) (suspendsIn s v2))
+    → NumbersOnly s v2 v3 × (suspendsIn s v3 ≡ suspendLoop (length (moduleOf s .chunks)) (moduleOf s .chunks) (suspendsIn s v2))
     → size ≡ maximumOf (reply .flow) → r ≡ ended (ltb 0 (t .inits) && ltb (t .slots) (t .shared + t .inits)) size → RebuiltAs s ws v3 r
 all-rebuilt s ws v2 v3 t reply size r x sites room et a er (ep, f) (m, es) ez e =
     let w : Writes s ws reply v2 v3 = record { is = er; puts = ep; fit = f; marked = m; suspends = es } in

@@ -15,7 +15,7 @@ ghost use Rattle.definition.specs.Module.{moduleOf};
 ghost use Rattle.definition.specs.Start.{callsOne, suspendMore, suspendLoop};
 ghost use Rattle.form_laws.specs.Good.{chunkNo};
 ghost use Rattle.layout.specs.Indexed.{Indexed, tablesOf, chunkAt};
-ghost use Rattle.start.specs.suspending.Suspending.{suspendsIn, lookAt, Marked, Looked};
+ghost use Rattle.start.specs.suspending.Suspending.{suspendsIn, lookAt, NumbersOnly, Looked};
 ghost use Rattle.ops.specs.Numbers.{opCall};
 
 // The instruction calls a chunk that suspends.
@@ -93,7 +93,7 @@ pub fn suspend_all(s: &[u8], ws: &mut [u32], t: Tables)
     requires { ⌜ Indexed (now s) (now ws) ⌝ }
     requires { ⌜ t ≡ tablesOf (now s) ⌝ }
     ensures { λ r. ⌜
-        Marked (now (s .entry)) (now (ws .entry)) (now (ws .exit))
+        NumbersOnly (now (s .entry)) (now (ws .entry)) (now (ws .exit))
         × (suspendsIn (now (s .entry)) (now (ws .exit))
         ≡ suspendLoop (length (moduleOf (now (s .entry)) .chunks)) (moduleOf (now (s .entry)) .chunks) (suspendsIn (now (s .entry)) (now (ws .entry))))
         ⌝ }

@@ -17,7 +17,7 @@ use Rattle.definition.specs.Module.{initOf, chunksFrom}
 use Rattle.layout.specs.declared.Tables.{Tables}
 use Rattle.layout.specs.Layout.{numbersAt, rowField, wordCount, wordSuspends, headWords}
 use Rattle.index_fill.specs.declared.model.FillState.{FillState}
-use Rattle.index_fill.specs.model.Model.{areas, slotOf, numberWords, numbersOf, chunkWords, instrWords, siteWords, codeWords, codeWork, chunkWork, instrWork, withMark, markWords, initWords, slotWords, tablesAfter, wordsAfter, wordsFrom}
+use Rattle.index_fill.specs.model.Model.{areas, slotOf, numberWords, numbersOf, chunkWords, instrWords, siteWords, codeWords, codeWork, chunkWork, instrWork, slotMarked, markWords, initWords, slotWords, tablesAfter, wordsAfter, wordsFrom}
 use Rattle.index_fill.proofs.model.Room.{Room, room-after}
 
 -- a choice between words that agree
@@ -44,7 +44,7 @@ keep-after tag s p t w = go (eqb tag 2) (eqb tag 3)
 pub mark-keeps : (t : Tables) (n : ℕ) (ws : List ℕ) (a : ℕ) → (n < t .slots → a ≡ slotOf t n + 15 → ⊥) → getD (markWords t n ws) a 0 ≡ getD ws a 0
 unfolding markWords
 mark-keeps t n ws a h =
-    let x = withMark (getD ws (slotOf t n + 15) 0) in
+    let x = slotMarked (getD ws (slotOf t n + 15) 0) in
     only (ltb n (t .slots)) (set ws (slotOf t n + 15) x) ws a
     (λ l. getD-set-other ws (slotOf t n + 15) a x 0 (h (ltb-true n (t .slots) l)))
 

@@ -17,7 +17,7 @@ use Rattle.definition.specs.Data.{member}
 use Rattle.form_laws.specs.Order.{ordered}
 use Rattle.layout.specs.declared.Tables.{Tables}
 use Rattle.index_fill.specs.declared.model.FillState.{FillState}
-use Rattle.index_fill.specs.model.Model.{slotOf, oneMore, codeWords, codeWork, withMark, markWords, initWords, slotWords, tablesAfter, wordsAfter, wordsFrom}
+use Rattle.index_fill.specs.model.Model.{slotOf, oneMore, codeWords, codeWork, slotMarked, markWords, initWords, slotWords, tablesAfter, wordsAfter, wordsFrom}
 use Rattle.index_fill.proofs.model.Room.{room-after}
 use Rattle.index_fill.proofs.model.Keep.{code-keeps, mark-keeps, init-keeps, keep-after}
 use Rattle.index_fill.proofs.model.AtWork.{FillReady, ready, length-code}
@@ -29,7 +29,7 @@ placedIn s ps = map (λ p. at16 s (p + 3)) (ofTag 7 s ps)
 
 -- a word, with the mark if there is a placement
 abbrev pub markIf : Bool → ℕ → ℕ
-markIf b n = cond b (withMark n) n
+markIf b n = cond b (slotMarked n) n
 
 two-marks : (b c : Bool) (n : ℕ) → markIf c (markIf b n) ≡ markIf (b || c) n
 two-marks true true n = omega arith

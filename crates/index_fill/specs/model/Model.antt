@@ -119,11 +119,11 @@ abbrev pub slotOf : Tables → ℕ → ℕ
 slotOf t n = headWords + 16 * t .chunks + 16 * n
 
 -- the mark of a placement stands above the writes of a round
-abbrev pub withMark : ℕ → ℕ
-withMark n = n % 65536 + 65536
+abbrev pub slotMarked : ℕ → ℕ
+slotMarked n = n % 65536 + 65536
 
 unfoldable pub markWords : Tables → ℕ → List ℕ → List ℕ
-markWords t n ws = cond (ltb n (t .slots)) (set ws (slotOf t n + 15) (withMark (getD ws (slotOf t n + 15) 0))) ws
+markWords t n ws = cond (ltb n (t .slots)) (set ws (slotOf t n + 15) (slotMarked (getD ws (slotOf t n + 15) 0))) ws
 
 -- no mark in the first n slots
 unfoldable pub unmarkedWords : Tables → ℕ → List ℕ → List ℕ

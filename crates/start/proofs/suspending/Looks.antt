@@ -25,18 +25,18 @@ use Rattle.layout.proofs.Kept.{indexed-keep, kept-trans, kept-suspends, steady-
 use Rattle.run_state.proofs.Rows.{row-set}
 use Rattle.masks.proofs.Both.{neither}
 use Rattle.rule_laws.proofs.Told.{call-callee}
-use Rattle.start.specs.suspending.Suspending.{suspendsIn, lookAt, Marked, Looked}
+use Rattle.start.specs.suspending.Suspending.{suspendsIn, lookAt, NumbersOnly, Looked}
 use Rattle.ops.specs.Numbers.{opCall}
 
 -- ---- what is marked
-pub marked-refl : (s ws : List ℕ) → Marked s ws ws
+pub marked-refl : (s ws : List ℕ) → NumbersOnly s ws ws
 marked-refl s ws = record { kept = steady-refl (moduleOf s) ws .kept; outside = outside-refl 64 _ ws }
 
-pub marked-trans : (s ws v u : List ℕ) → Marked s ws v → Marked s v u → Marked s ws u
+pub marked-trans : (s ws v u : List ℕ) → NumbersOnly s ws v → NumbersOnly s v u → NumbersOnly s ws u
 marked-trans s ws v u a b =
     record { kept = kept-trans (moduleOf s) ws v u (a .kept) (b .kept); outside = outside-trans (a .outside) (b .outside) }
 
-pub marked-indexed : (s ws v : List ℕ) → Marked s ws v → Indexed s ws → Indexed s v
+pub marked-indexed : (s ws v : List ℕ) → NumbersOnly s ws v → Indexed s ws → Indexed s v
 marked-indexed s ws v a x = indexed-keep s ws v (a .kept) x
 
 pub suspends-at : (s ws : List ℕ) (n : ℕ) → n < length (moduleOf s .chunks) → getD (suspendsIn s ws) n false ≡ suspendsAt ws n
@@ -131,7 +131,7 @@ module _ (s ws : List ℕ) (x : Indexed s ws) (c : ℕ) (h : c < length (moduleO
 -- ---- one look at every chunk
 pub record Looking (s begin ws : List ℕ) (c : ℕ) (changed : Bool) : Type 0 where
   pub below : c ≤ length (moduleOf s .chunks)
-  pub marked : Marked s begin ws
+  pub marked : NumbersOnly s begin ws
   pub rest : suspendMore (drop c (moduleOf s .chunks)) (suspendsIn s ws) ≡ suspendMore (moduleOf s .chunks) (suspendsIn s begin)
   pub same : changed ≡ false → suspendsIn s ws ≡ suspendsIn s begin
 
@@ -170,7 +170,7 @@ looking-last s begin ws c changed l h =
 
 -- ---- looks one after the other
 pub record Left (s begin ws : List ℕ) (left : ℕ) : Type 0 where
-  pub marked : Marked s begin ws
+  pub marked : NumbersOnly s begin ws
   pub rest : suspendLoop left (moduleOf s .chunks) (suspendsIn s ws) ≡ suspendLoop (length (moduleOf s .chunks)) (moduleOf s .chunks) (suspendsIn s begin)
 
 pub left-first : (s ws : List ℕ) (n : ℕ) → n ≡ length (moduleOf s .chunks) → Left s ws ws n
@@ -204,7 +204,7 @@ module _ (s begin ws v : List ℕ) (left : ℕ) (l : Left s begin ws left) (b : 
       }
 
 pub left-last : (s begin ws : List ℕ) (left : ℕ) → Left s begin ws left → left ≤ 0
-    → Marked s begin ws × (suspendsIn s ws ≡ suspendLoop (length (moduleOf s .chunks)) (moduleOf s .chunks) (suspendsIn s begin))
+    → NumbersOnly s begin ws × (suspendsIn s ws ≡ suspendLoop (length (moduleOf s .chunks)) (moduleOf s .chunks) (suspendsIn s begin))
 unfolding suspendLoop
 left-last s begin ws left l h =
     let e : left ≡ 0 = omega arith in

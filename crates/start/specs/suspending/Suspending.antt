@@ -21,12 +21,12 @@ lookAt s ws c =
     set (suspendsIn s ws) c (getD (suspendsIn s ws) c false || callsOne (suspendsIn s ws) (chunkNo (moduleOf s) c .code))
 
 -- only the numbers of the chunks were written, and the index stays
-pub record Marked (s ws v : List ℕ) : Type 0 where
+pub record NumbersOnly (s ws v : List ℕ) : Type 0 where
   pub kept : Kept (moduleOf s) ws v
   pub outside : Outside headWords (headWords + 16 * length (moduleOf s .chunks)) ws v
 
 -- what a look leaves, and whether it says that one more suspends
 pub record Looked (s ws v : List ℕ) (now : List Bool) (changed : Bool) : Type 0 where
-  pub marked : Marked s ws v
+  pub marked : NumbersOnly s ws v
   pub suspends : suspendsIn s v ≡ now
   pub same : changed ≡ false → suspendsIn s v ≡ suspendsIn s ws
