@@ -1,9 +1,11 @@
 // What a call answers, and the refusals made.
+#![tactic(auto)]
+
 ghost use Rattle.std.specs.Prelude.{◌≡◌, ◌<◌};
 ghost use Rattle.answers.specs.Answers.{refusal, nowhere, in_field};
 
 // A refusal: its number, the chunk and instruction it names (65535 where none), and the steps taken.
-#[derive(Drop)]
+#[derive(Clone, Copy)]
 pub struct Refusal {
     pub number: u8,
     pub chunk: u16,
@@ -11,14 +13,14 @@ pub struct Refusal {
     pub steps: u32,
 }
 
-#[derive(Drop)]
+#[derive(Clone, Copy)]
 pub enum Answer {
     Accepted { length: usize, steps: u32 },
     Refused(Refusal),
 }
 
 // Of a call with an index: the length of the index, too.
-#[derive(Drop)]
+#[derive(Clone, Copy)]
 pub enum IndexedAnswer {
     Accepted {
         length: usize,

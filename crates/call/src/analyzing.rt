@@ -15,7 +15,7 @@ use run::{RunEnd, run};
 use start::{Started, start};
 
 // What a run has come to: a refusal, or the reply's largest body and the steps, the facts standing in the workspace.
-#[derive(Drop)]
+#[derive(Clone, Copy)]
 pub enum Reached {
     Refused(Refusal),
     Ready { reply: u32, steps: u32 },

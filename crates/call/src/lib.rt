@@ -1,5 +1,7 @@
 // The whole call: refusals 1 to 5, the index of the description, the analysis (`analyzing`: 9 to 12, the run), the report with 6 and its index
 // with 19 (`delivering`). The workspace is cleared at the end.
+#![tactic(auto)]
+
 mod analyzing;
 mod delivering;
 

@@ -1,1 +1,3 @@
 // No code. The definition, evaluated on small descriptions: see specs/.
+#![tactic(auto)]
+

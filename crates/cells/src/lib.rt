@@ -1,4 +1,6 @@
 // Cells: mask, width and flow of one place, joined, made, declared and narrowed; and the width behind a guard (`guarding`).
+#![tactic(auto)]
+
 mod guarding;
 
 ghost use Rattle.std.specs.Prelude.{◌≡◌};
@@ -10,14 +12,14 @@ use masks::Mask;
 use widths::{Shape, Width, scalar_width};
 
 // What is known of the value in one place.
-#[derive(Drop)]
+#[derive(Clone, Copy)]
 pub struct Cell {
     pub mask: Mask,
     pub width: Width,
     pub flow: Flow,
 }
 
-#[derive(Drop)]
+#[derive(Clone, Copy)]
 pub struct JoinedCell {
     pub cell: Cell,
     pub changed: bool,

@@ -137,7 +137,7 @@ pub fn check_place(s: &[u8], ws: &[u32], t: Tables, v: RowVisit, want: Want, p: 
 }
 
 // The places that are asked about run from here up to end.
-#[derive(Drop)]
+#[derive(Clone, Copy)]
 pub struct Places {
     pub from: usize,
     pub end: usize,

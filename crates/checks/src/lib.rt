@@ -1,4 +1,6 @@
 // What a visit is refused for: in the rounds and in validation alike, and what validation asks of it besides.
+#![tactic(auto)]
+
 pub mod asked;
 mod refusals;
 mod validation;

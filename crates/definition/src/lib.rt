@@ -1,5 +1,7 @@
 // The definition of the whole call stands in specs/. Here are the types that it shares with the code, and two small functions of it that
 // crates with nothing else in common use.
+#![tactic(auto)]
+
 ghost use Rattle.std.specs.Prelude.{◌≡◌, ◌<◌, ◌^◌};
 ghost use Rattle.definition.specs.Module.{signed_params};
 ghost use Rattle.definition.specs.Outputs.{output};
@@ -10,7 +12,7 @@ use description::params_of;
 use masks::Mask;
 
 // The outputs of an instruction: the first, the second, and all others.
-#[derive(Drop)]
+#[derive(Clone, Copy)]
 pub struct Made {
     pub first: Cell,
     pub second: Cell,
@@ -18,7 +20,7 @@ pub struct Made {
 }
 
 // Which operands validation asks for.
-#[derive(Drop)]
+#[derive(Clone, Copy)]
 pub enum Ask {
     Nothing,
     First,
@@ -31,7 +33,7 @@ pub enum Ask {
 }
 
 // The operands asked for, with the kinds that the first (or each) and the second may be of.
-#[derive(Drop)]
+#[derive(Clone, Copy)]
 pub struct Want {
     pub ask: Ask,
     pub first: Mask,
@@ -39,7 +41,7 @@ pub struct Want {
 }
 
 // What a requirement finds: fine, fine behind a guard, or not proven.
-#[derive(Drop)]
+#[derive(Clone, Copy)]
 pub enum Check {
     Fine,
     Guard(Mask),
@@ -48,7 +50,7 @@ pub enum Check {
 
 // What the walk over the fields knows before a field: the tag of the field before, the header's numbers, the chunks seen, the numbers of the
 // chunk at work, the fields of the last tag so far, and the cells of the workspace so far.
-#[derive(Drop)]
+#[derive(Clone, Copy)]
 pub struct Scan {
     pub place: u8,
     pub chunks: u16,
@@ -62,14 +64,14 @@ pub struct Scan {
     pub cells: u64,
 }
 
-#[derive(Drop)]
+#[derive(Clone, Copy)]
 pub enum ScanStep {
     Go(Scan),
     Stop(Refusal),
 }
 
 // A description of good form, with its number of workspace words W, or the refusal.
-#[derive(Drop)]
+#[derive(Clone, Copy)]
 pub enum Form {
     Fine(u64),
     Refused(Refusal),

@@ -1,5 +1,7 @@
 // The fields of a description, read at a place: their fixed parts (`heads`), their shapes (`shapes`), here all else. Every read is total.
 // `reader` has the reader that remembers how far it has read.
+#![tactic(auto)]
+
 mod heads;
 pub mod reader;
 mod shapes;
@@ -12,7 +14,7 @@ use le::{u8_at, u16_at};
 pub use shapes::{declared_result, param_at, shape_at, site_reply, site_yielded};
 
 // Field 1.
-#[derive(Drop)]
+#[derive(Clone, Copy)]
 pub struct Header {
     pub float: u8,
     pub entry: u16,
@@ -25,7 +27,7 @@ pub struct Header {
 }
 
 // The fixed part of field 2.
-#[derive(Drop)]
+#[derive(Clone, Copy)]
 pub struct ChunkHead {
     pub reachable: u8,
     pub block: u8,
@@ -36,7 +38,7 @@ pub struct ChunkHead {
 }
 
 // Field 3.
-#[derive(Drop)]
+#[derive(Clone, Copy)]
 pub struct Instr {
     pub op: u8,
     pub taken: u8,

@@ -5,7 +5,7 @@ ghost use Rattle.description.specs.reader.Reading.{after};
 
 use le::u16_at;
 
-#[derive(Drop)]
+#[derive(Clone, Copy)]
 pub struct Reader<'a> {
     pub src: &'a [u8],
     pub at: usize,

@@ -1,4 +1,6 @@
 // Extents: the size range of a body of one kind; and four of them, one for each kind (`bodies`).
+#![tactic(auto)]
+
 mod bodies;
 
 ghost use Rattle.std.specs.Prelude.{◌≡◌, min, max};
@@ -8,26 +10,26 @@ pub use bodies::{join_bodies, same_bodies};
 use widths::Width;
 
 // The size range of a body of one kind.
-#[derive(Drop)]
+#[derive(Clone, Copy)]
 pub enum BodyExtent {
     Absent,
     Range { min: u32, max: u32 },
     Unknown,
 }
 
-#[derive(Drop)]
+#[derive(Clone, Copy)]
 pub struct Extent {
     pub body: BodyExtent,
 }
 
-#[derive(Drop)]
+#[derive(Clone, Copy)]
 pub struct JoinedExtent {
     pub extent: Extent,
     pub changed: bool,
 }
 
 // A size that may be missing.
-#[derive(Drop)]
+#[derive(Clone, Copy)]
 pub enum Size {
     Nothing,
     Bytes(u32),

@@ -1,5 +1,7 @@
 // What is joined into the facts: in the rounds what a visit adds (callee inputs, a result, private flows and writes), and at the end of a
 // round the writes of each slot.
+#![tactic(auto)]
+
 mod merging;
 
 ghost use Rattle.std.specs.Prelude.{◌≡◌, [], ◌∷◌, map, ◌+◌, ◌*◌, ◌-◌, ◌<◌, ◌≤◌, false, length, get_or};

@@ -1,5 +1,7 @@
 // Lists the facts of the description on standard input. It is run on document 01's example; .ci/programs runs it on more inputs, those in
 // examples/factlist.
+#![tactic(auto)]
+
 fn main() {
     factlisting::run();
 }

@@ -1,4 +1,6 @@
 // The program `factlist`: the facts of a description as text.
+#![tactic(auto)]
+
 ghost use Rattle.std.specs.Prelude.{◌≡◌, ◌≤◌, length, replicate};
 ghost use Rattle.factlisting.specs.Factlist.{text_room, Listed};
 

@@ -1,5 +1,7 @@
 // The library: `sizes`, `check`, `lookup`; with an index beside the report `check_indexed`, `lookup_indexed`; in turns `start_run`,
 // `resume_run`.
+#![tactic(auto)]
+
 ghost use Rattle.report_index.specs.Index.{Answered};
 ghost use Rattle.call.specs.Checked.{Checked};
 ghost use Rattle.call.specs.CheckedIndexed.{CheckedIndexed};

@@ -1,4 +1,6 @@
 // The static library: the call, the sizes that it is lent and the lookup, the call and the lookup with an index, the two calls of a run that pauses, for programs in C and Rust. A slice is two arguments, pointer and length.
+#![tactic(auto)]
+
 ghost use Rattle.std.specs.Prelude.{◌<◌, ◌≡◌, cond, [], ◌∷◌, eqb, get_or};
 ghost use Rattle.answers.specs.Answers.{numbers, indexed_numbers};
 ghost use Rattle.definition.specs.Form.{form_of};

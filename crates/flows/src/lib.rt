@@ -1,4 +1,6 @@
 // Flows: the extents of a place's body kinds with ownership, origin and predicate.
+#![tactic(auto)]
+
 ghost use Rattle.std.specs.Prelude.{◌≡◌};
 ghost use Rattle.flows.specs.Flow.{join_owned, same_owned, same_origin, join_origin, origin_without, same_predicate, join_predicate, predicate_without, negated, same_bool, join_flow, same_flow, joined_flow, no_flow, extent_of_kind, new_flow, minimum_of, larger, largest, maximum_of, invalidated, bare};
 
@@ -7,27 +9,27 @@ use masks::Mask;
 use widths::Width;
 
 // Whether the body in a place is owned.
-#[derive(Drop)]
+#[derive(Clone, Copy)]
 pub enum Owned {
     No,
     Yes,
 }
 
 // The local that a value was read from and still equals.
-#[derive(Drop)]
+#[derive(Clone, Copy)]
 pub enum Origin {
     Nowhere,
     Local(u16),
 }
 
 // A Bool that says whether a local holds an enum, and for which of its values it does.
-#[derive(Drop)]
+#[derive(Clone, Copy)]
 pub enum Predicate {
     Nothing,
     Tests { receiver: u16, when: bool },
 }
 
-#[derive(Drop)]
+#[derive(Clone, Copy)]
 pub struct Flow {
     pub bodies: [Extent; 4],
     pub owned: Owned,
@@ -35,7 +37,7 @@ pub struct Flow {
     pub predicate: Predicate,
 }
 
-#[derive(Drop)]
+#[derive(Clone, Copy)]
 pub struct JoinedFlow {
     pub flow: Flow,
     pub changed: bool,

@@ -1,5 +1,7 @@
 // The form checks: refusals 1 to 4 and W, then 5 (`room`). One walk over the fields, in byte order (`field_steps`, `code_steps`); then the two
 // late looks (`late_checks`). Nothing is written. The scan takes a reader; every other caller has check_form.
+#![tactic(auto)]
+
 mod code_steps;
 mod field_steps;
 mod late_checks;

@@ -1,4 +1,6 @@
 // The rules of the form, one field at a time: the lowest number of a fault, or 0. What each instruction takes and gives stands in `fits`.
+#![tactic(auto)]
+
 mod chunks;
 mod contents;
 mod fits;

@@ -1,5 +1,7 @@
 // Replays a stored list of descriptions at the bounds of good form: each is looked at by check_form and held against the answer of the
 // oracle's reader. Standard input has the list; oracle/src/formlist.rs says how an entry is written, and made it.
+#![tactic(auto)]
+
 ghost use Rattle.std.specs.Prelude.{◌≡◌, length};
 
 use definition::Form;
@@ -8,7 +10,7 @@ use le::{u8_at, u16_at, u32_at};
 use tally::{Tally, begun, counted, ended, note, say};
 
 // How far the replay is: the bytes of the base, and the entries so far.
-#[derive(Drop)]
+#[derive(Clone, Copy)]
 struct Replay {
     base: usize,
     tally: Tally,

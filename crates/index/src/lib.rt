@@ -1,5 +1,7 @@
 // Access through the index in the workspace: chunks and rows (`access`), instructions (`fetch`), the description's tables (`entries`). No
 // access depends on the description's length.
+#![tactic(auto)]
+
 mod access;
 mod entries;
 mod fetch;

@@ -1,4 +1,6 @@
 // The index of a description of good form, filled in one walk over its fields. `model` has what the walk keeps between two fields.
+#![tactic(auto)]
+
 mod model;
 
 ghost use Rattle.std.specs.Prelude.{◌≡◌, cond, ◌<◌, ◌≤◌, ◌^◌, eqb, length};

@@ -1,6 +1,6 @@
 // What the walk that fills the index keeps of the chunk at work. What the walk leaves in the workspace is proved in
 // proofs/model/.
-#[derive(Drop)]
+#[derive(Clone, Copy)]
 pub struct FillState {
     // the chunks seen so far, where the numbers of the last stand, and its instructions so far
     pub seen: usize,

@@ -1,5 +1,7 @@
 // The layout of the workspace, in cells of 16 words: the reply, three for numbers; one of numbers for each chunk; one for each slot; then for
 // each chunk its inputs, its result, and a row for each instruction: 6 cells of numbers, D stack places, L locals.
+#![tactic(auto)]
+
 ghost use Rattle.std.specs.Prelude.{◌≡◌, ◌+◌, ◌*◌, ◌<◌, ◌^◌};
 ghost use Rattle.layout.specs.Layout.{numbers_at, place_at, local_at};
 
@@ -36,7 +38,7 @@ pub const ROW_HEAD: usize = 96;
 pub const ROW_FIELD: usize = 1;
 
 // The numbers that every taking uses.
-#[derive(Drop)]
+#[derive(Clone, Copy)]
 pub struct Tables {
     pub chunks: usize,
     pub signatures: usize,
@@ -56,7 +58,7 @@ pub struct Tables {
 }
 
 // The numbers of one chunk.
-#[derive(Drop)]
+#[derive(Clone, Copy)]
 pub struct Chunk {
     pub at: usize,
     pub rows: usize,

@@ -1,4 +1,6 @@
 // Numbers in bytes, low byte first. A read past the end gives 0.
+#![tactic(auto)]
+
 ghost use Rattle.std.specs.Prelude.{◌≡◌, ◌+◌, ◌<◌, ◌≤◌, ◌^◌, length, [], ◌∷◌};
 ghost use Rattle.le.specs.Le.{at8, at16, at32, le16, le32};
 ghost use Rattle.le.specs.Wrote.{WroteN};

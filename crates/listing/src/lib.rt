@@ -1,5 +1,7 @@
 // The listing of an answer and its report, as text in a lent buffer. Each private function lays text from a place on, as far as the buffer
 // goes, and answers the place after it.
+#![tactic(auto)]
+
 ghost use Rattle.std.specs.Prelude.{◌≡◌, [], ◌∷◌, ◌+◌, ◌*◌, ◌^◌, ◌<◌, ◌≤◌, length, take};
 ghost use Rattle.listing.specs.Decimal.{digit_of, decimal};
 ghost use Rattle.listing.specs.Listing.{spaced as spacedOf, pair_of, last_of, refused_line, accepted_line, masks_from, masks_of, named_of, cells_of, record_line, inspection_line, branch_line, field_line, lines_of, listing as listingOf};

@@ -1,4 +1,6 @@
 // The records of a report, one field after another; lookup: the part that is one instruction's record.
+#![tactic(auto)]
+
 ghost use Rattle.std.specs.Prelude.{◌≡◌, ◌<◌, ◌^◌};
 ghost use Rattle.description.specs.Fields.{next_at};
 ghost use Rattle.lookup.specs.Find.{is_record, entry_at, names_at, found, Within, Lent};
@@ -9,14 +11,14 @@ use le::{u8_at, u16_at};
 const RECORD: u8 = 19;
 
 // A part of bytes: its first place, and how many they are.
-#[derive(Drop)]
+#[derive(Clone, Copy)]
 pub struct Part {
     pub first: usize,
     pub size: usize,
 }
 
 // What an index has of a record: the chunk and the instruction that it names, its first byte and its length.
-#[derive(Drop)]
+#[derive(Clone, Copy)]
 pub struct Entry {
     pub chunk: u16,
     pub instruction: u16,

@@ -1,4 +1,6 @@
 // The mark over the words of a workspace: all of them, the mark's own word included, sum to THE_MARK modulo 2^32.
+#![tactic(auto)]
+
 ghost use Rattle.std.specs.Prelude.{◌≡◌, ◌%◌, ◌<◌, length};
 ghost use Rattle.mark.specs.Marks.{word_range, sum, marked, with_mark};
 

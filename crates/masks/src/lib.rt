@@ -1,15 +1,17 @@
 // Masks of value kinds, and the masks of constants and immediates.
+#![tactic(auto)]
+
 ghost use Rattle.std.specs.Prelude.{◌≡◌};
 ghost use Rattle.masks.specs.Mask.{scalar, body, kind, union, common, has, within, same, one_kind, operand_kind, constant, immediate};
 
 // The kinds that a value may be of, one bit for each.
-#[derive(Drop)]
+#[derive(Clone, Copy)]
 pub struct Mask {
     pub bits: u16,
 }
 
 // The class of an operand, as an untagged native instruction needs it.
-#[derive(Drop)]
+#[derive(Clone, Copy)]
 pub enum OperandKind {
     Int,
     Fixed,

@@ -1,5 +1,7 @@
 // New values: a constant, a part that is read, what a native gives, a private read; the outputs after the first (`results`); the kinds of bit
 // instructions and of a negation (`kinds`).
+#![tactic(auto)]
+
 mod kinds;
 pub mod results;
 

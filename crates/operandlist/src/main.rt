@@ -1,5 +1,7 @@
 // Lists the class of every mask that a u16 can hold, one to a line, but only counts those that are unknown. oracle/operandlist wrote what it has
 // to say: the answers of types.rs.
+#![tactic(auto)]
+
 use masks::{Mask, OperandKind};
 use std::num::wrapping_add_u32;
 

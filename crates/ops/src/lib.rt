@@ -1,5 +1,7 @@
 // The rule of each instruction, by its place in Op: how its outputs come about, what validation asks, how control leaves it, what it does to
 // locals and facts. Each of these is a small list of cases of its own.
+#![tactic(auto)]
+
 ghost use Rattle.std.specs.Prelude.{◌≡◌, ◌<◌, ◌≤◌};
 ghost use Rattle.masks.specs.Names.{BOOL, WORD};
 ghost use Rattle.ops.specs.Ops.{ruled, plain, no_rule, rule_of};
@@ -26,7 +28,7 @@ pub const IS_ENUM: u8 = 40;
 pub const IS_STRUCT: u8 = 41;
 
 // The first output.
-#[derive(Drop)]
+#[derive(Clone, Copy)]
 pub enum Makes {
     // Of any kind.
     Anything,
@@ -56,7 +58,7 @@ pub enum Makes {
 }
 
 // The outputs after the first.
-#[derive(Drop)]
+#[derive(Clone, Copy)]
 pub enum Others {
     Unknowns,
     Words,
@@ -70,7 +72,7 @@ pub enum Others {
 }
 
 // What validation asks of the operands.
-#[derive(Drop)]
+#[derive(Clone, Copy)]
 pub enum Asks {
     Free,
     First(Mask),
@@ -91,7 +93,7 @@ pub enum Asks {
 }
 
 // How control leaves.
-#[derive(Drop)]
+#[derive(Clone, Copy)]
 pub enum Exit {
     Next,
     Stops,
@@ -102,7 +104,7 @@ pub enum Exit {
 }
 
 // What happens to locals and facts.
-#[derive(Drop)]
+#[derive(Clone, Copy)]
 pub enum Acts {
     Still,
     SetsLocal,
@@ -114,14 +116,14 @@ pub enum Acts {
 }
 
 // The slots that are named.
-#[derive(Drop)]
+#[derive(Clone, Copy)]
 pub enum Data {
     NoSlot,
     OneSlot,
     ManySlots,
 }
 
-#[derive(Drop)]
+#[derive(Clone, Copy)]
 pub struct Rule {
     pub makes: Makes,
     pub others: Others,

@@ -1,4 +1,6 @@
 // The outputs of a visit, and the local that it sets (`assigning`).
+#![tactic(auto)]
+
 mod assigning;
 
 ghost use Rattle.std.specs.Prelude.{◌≡◌, ◌+◌, ◌%◌, ◌^◌, ◌<◌, ◌≤◌, length};

@@ -1,4 +1,6 @@
 // The packed size of a composite's operands, and what its construction makes.
+#![tactic(auto)]
+
 ghost use Rattle.std.specs.Prelude.{◌≡◌};
 ghost use Rattle.packing.specs.Packing.{span_with, scalar_span, body_span, bodies_of, body_kinds, packed_one, and_then, within, constructed, construction};
 
@@ -8,7 +10,7 @@ use flows::{Flow, Origin, Owned, Predicate};
 use masks::Mask;
 
 // The least and the largest packed size, or that there is none.
-#[derive(Drop)]
+#[derive(Clone, Copy)]
 pub enum Packed {
     Nothing,
     Bytes { min: u32, max: u32 },

@@ -1,4 +1,6 @@
 // A run between two takings, stored in the front of its workspace and read back from there.
+#![tactic(auto)]
+
 ghost use Rattle.std.specs.Prelude.{◌≡◌, ◌+◌, ◌*◌, ◌/◌, ◌%◌, ◌<◌, ◌≤◌, length};
 ghost use Rattle.mark.specs.Marks.{word_range};
 ghost use Rattle.layout.specs.Layout.{head_words};

@@ -1,5 +1,7 @@
 // A run that pauses: two calls, one that begins it and one that takes it up. Refusals 1 to 5, on taking up 21, the index of the description;
 // then the run up to its limit (`reaching`), and the report or the pause (`closing`).
+#![tactic(auto)]
+
 mod closing;
 mod reaching;
 
@@ -19,7 +21,7 @@ use words::clear;
 
 // What a call comes to: a run paused after so many steps in all, a refusal, or the lengths of report and index and the steps. The index's is 0
 // where none was asked for.
-#[derive(Drop)]
+#[derive(Clone, Copy)]
 pub enum Turn {
     Paused {
         steps: u32,

@@ -20,14 +20,14 @@ use run_state::Run;
 use start::{Started, restart, start};
 
 // The end of a run: the reply's largest body and the steps, the facts standing in the workspace.
-#[derive(Drop)]
+#[derive(Clone, Copy)]
 pub struct End {
     pub reply: u32,
     pub steps: u32,
 }
 
 // What a run has come to: paused after so many steps, stored and marked; refused; over.
-#[derive(Drop)]
+#[derive(Clone, Copy)]
 pub enum Stage {
     Paused(u32),
     Refused(Refusal),

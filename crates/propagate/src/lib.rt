@@ -1,4 +1,6 @@
 // What leaves a visit, passed along each of its ways into the rows of its targets; a target that changed is queued.
+#![tactic(auto)]
+
 ghost use Rattle.std.specs.Prelude.{◌≡◌, List, [], ◌∷◌, ℕ, ◌+◌, ◌<◌, ◌≤◌, length};
 ghost use Rattle.row_join.specs.joining.Leave.{row_words};
 ghost use Rattle.propagate.specs.Passing.{Passed, leaves_with, exit_in, passes, ways_in};
@@ -14,7 +16,7 @@ use ways::{Narrows, Ways, exit_of, narrowing, ways_of};
 use words::mask_at;
 
 // The queue after a way, or the number of the refusal.
-#[derive(Drop)]
+#[derive(Clone, Copy)]
 pub enum Went {
     On(Queue),
     Stop(u8),

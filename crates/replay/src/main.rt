@@ -1,6 +1,8 @@
 // Replays a stored list of descriptions: each is given to `check` with the words, report buffer and limit of its entry, and what comes of it
 // is held against the oracle's answer and report, byte by byte. Standard input has the list; oracle/src/replaylist.rs says how an entry is
 // written, and made it.
+#![tactic(auto)]
+
 use answers::Answer;
 use facts::check;
 use le::{u8_at, u16_at, u32_at};

@@ -1,5 +1,7 @@
 // What a host lends for a description: the least workspace, and a report buffer that every report of it fits into. The second is summed up in
 // one walk over the fields, from what each can add.
+#![tactic(auto)]
+
 ghost use Rattle.std.specs.Prelude.{◌≡◌, cond, ◌+◌, ◌-◌, ◌<◌, ◌≤◌, ◌^◌, length};
 ghost use Rattle.definition.specs.Bounds.{most_bytes};
 ghost use Rattle.definition.specs.Module.{module_of};
@@ -37,7 +39,7 @@ const SLOT: u64 = 52;
 const REPLY: u64 = 7;
 
 // Words of workspace and bytes of report buffer; or the refusal of a description that is not of good form.
-#[derive(Drop)]
+#[derive(Clone, Copy)]
 pub enum Enough {
     Room { words: u64, report: u64 },
     Refused(Refusal),
@@ -45,7 +47,7 @@ pub enum Enough {
 
 // The chunk that a field stands in: how many there were up to it, whether it is reachable, whether it is the entry, its locals and its stack;
 // whether all its instructions before the field only went on to the next, and the height of the stack there.
-#[derive(Drop)]
+#[derive(Clone, Copy)]
 pub struct Within {
     pub seen: usize,
     pub reachable: bool,

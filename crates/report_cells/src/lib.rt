@@ -1,4 +1,6 @@
 // A cell in 49 bytes; a field's tag and length. Each write answers the place after it.
+#![tactic(auto)]
+
 ghost use Rattle.std.specs.Prelude.{◌≡◌, ◌∷◌, ◌+◌, ◌<◌, ◌≤◌, length};
 ghost use Rattle.le.specs.Le.{le16};
 ghost use Rattle.le.specs.Wrote.{WroteN};

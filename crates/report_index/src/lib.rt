@@ -1,5 +1,7 @@
 // An index beside a report: an entry of twelve bytes for each record. Written from the report's bytes; tested against any bytes; the lookup
 // through it.
+#![tactic(auto)]
+
 mod agreement;
 mod entries;
 
@@ -15,7 +17,7 @@ use entries::{entry_no, put_entry, seek};
 use lookup::{Entry, Part, end_at, entry_at, is_record};
 
 // What a lookup through an index answers: the part of the report, or that the two disagree.
-#[derive(Drop)]
+#[derive(Clone, Copy)]
 pub enum Sought {
     Found(Part),
     Disagrees(Refusal),

@@ -1,4 +1,6 @@
 // The length of the report: what of a row is recorded, the sizes of its record, the number of a visit's guards; how many records there are.
+#![tactic(auto)]
+
 mod counting;
 mod recorded;
 

@@ -1,4 +1,6 @@
 // The fields of the report, in the order of their tags, and in them the records of instructions. Each write answers the place after it.
+#![tactic(auto)]
+
 mod records;
 
 ghost use Rattle.std.specs.Prelude.{◌≡◌, ◌+◌, ◌*◌, ◌^◌, ◌<◌, ◌≤◌, length};

@@ -1,5 +1,7 @@
 // Whether a run that comes back from the host can go on: what is read back of it is tested here, since it may be forged. Where the run stands,
 // its queue, the heights of its rows (here); before a report is written, that no recorded row has a fault (`faultless`).
+#![tactic(auto)]
+
 mod faultless;
 
 ghost use Rattle.std.specs.Prelude.{◌≡◌, ◌≤◌, ◌<◌, length};

@@ -1,8 +1,10 @@
 // A ring of entries in the words from base on, as many as there are.
+#![tactic(auto)]
+
 ghost use Rattle.std.specs.Prelude.{◌≡◌, ◌+◌, ◌-◌, ◌<◌, length};
 ghost use Rattle.ring.specs.Ring.{wrap_of, pushed, grown, due_of, popped_of, QueueReady};
 
-#[derive(Drop)]
+#[derive(Clone, Copy)]
 pub struct Queue {
     pub head: usize,
     pub count: usize,

@@ -18,7 +18,7 @@ use run_state::Run;
 use words::{copy16, store};
 
 // Where a run stands between two takings: an entry is due, or all is done.
-#[derive(Drop)]
+#[derive(Clone, Copy)]
 pub enum Settled {
     Due(Run),
     Done,

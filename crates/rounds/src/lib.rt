@@ -1,5 +1,7 @@
 // From chunk to chunk and round to round, where no entry is due: on to the next chunk, the next round, validation (with 16 and 17 after each
 // chunk, `inspecting`) or the end. It takes no step.
+#![tactic(auto)]
+
 mod entering;
 mod inspecting;
 

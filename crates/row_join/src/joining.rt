@@ -14,14 +14,14 @@ use layout::{Chunk, NO_LOCAL, ROW_HEAD};
 use words::load;
 
 // The local that a visit sets, NO_LOCAL where it sets none.
-#[derive(Drop)]
+#[derive(Clone, Copy)]
 pub struct SetLocal {
     pub local: u16,
     pub cell: Cell,
 }
 
 // What leaves a visit, whatever the way: its outputs, the local that it sets, whether it drops all else, and the height after it.
-#[derive(Drop)]
+#[derive(Clone, Copy)]
 pub struct Leaving {
     pub made: Made,
     pub set: SetLocal,
@@ -30,7 +30,7 @@ pub struct Leaving {
 }
 
 // A way: the rows that it leads from and to, the stack places that are kept, and the local that is narrowed, or NO_LOCAL.
-#[derive(Drop)]
+#[derive(Clone, Copy)]
 pub struct Way {
     pub from: usize,
     pub to: usize,
@@ -39,7 +39,7 @@ pub struct Way {
 }
 
 // How a way met its target.
-#[derive(Drop)]
+#[derive(Clone, Copy)]
 pub enum Met {
     Same,
     Changed,

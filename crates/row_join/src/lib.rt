@@ -1,5 +1,7 @@
 // What leaves an instruction along one way, joined into the row of its target: locals and stack kept (`joining`) or reset (`resetting`), place
 // by place (`places`). Here: how it meets what stands there.
+#![tactic(auto)]
+
 pub mod joining;
 pub mod places;
 mod resetting;

@@ -1,4 +1,6 @@
 // Rounds until nothing changes, then validation, as one sequence of takings.
+#![tactic(auto)]
+
 ghost use Rattle.std.specs.Prelude.{◌≡◌, false, ◌+◌, ◌-◌, ◌<◌, ◌≤◌, ◌^◌};
 ghost use Rattle.ring.specs.Ring.{due_of};
 ghost use Rattle.answers.specs.Answers.{refusal};
@@ -20,7 +22,7 @@ use run_state::Run;
 use step::{Step, take};
 
 // Where a run stands at a limit: an entry is due, or it is over after so many steps, or refused.
-#[derive(Drop)]
+#[derive(Clone, Copy)]
 pub enum RunTo {
     Due(Run),
     Over(u32),
@@ -28,7 +30,7 @@ pub enum RunTo {
 }
 
 // The steps of a run that was accepted, or the refusal.
-#[derive(Drop)]
+#[derive(Clone, Copy)]
 pub enum RunEnd {
     Done(u32),
     Stop(Refusal),

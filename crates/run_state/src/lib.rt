@@ -1,8 +1,10 @@
 // Where a run stands between two takings.
+#![tactic(auto)]
+
 use ring::Queue;
 
 // All that a run needs between two takings, beside the workspace.
-#[derive(Drop)]
+#[derive(Clone, Copy)]
 pub struct Run {
     pub validating: bool,
     pub chunk: usize,

@@ -1,4 +1,6 @@
 // The slots that a data instruction names: what a read of them gives, what a write to them needs, which accesses are refused (`crossing`).
+#![tactic(auto)]
+
 mod crossing;
 
 ghost use Rattle.std.specs.Prelude.{◌≡◌, ◌≤◌};

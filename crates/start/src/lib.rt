@@ -1,5 +1,7 @@
 // Before the rounds: refusals 9 and 10 (`admitting`), 11 and 12, the declared inputs and results, the reply, which chunks suspend
 // (`suspending`).
+#![tactic(auto)]
+
 mod admitting;
 mod suspending;
 
@@ -24,7 +26,7 @@ use suspending::suspend_all;
 use words::store;
 
 // The largest body of a reply, or the refusal.
-#[derive(Drop)]
+#[derive(Clone, Copy)]
 pub enum Started {
     Ready(u32),
     Refused(Refusal),

@@ -1,4 +1,6 @@
 // One taking of an entry from the queue: the visit of its instruction.
+#![tactic(auto)]
+
 ghost use Rattle.std.specs.Prelude.{◌≡◌, cond, ◌+◌, ◌<◌, ◌≤◌, ◌^◌};
 ghost use Rattle.ring.specs.Ring.{due_of, popped_of};
 ghost use Rattle.definition.specs.Machine.{adds};
@@ -27,7 +29,7 @@ use row_join::Leaving;
 use run_state::Run;
 use visit::{RowVisit, visit_at};
 
-#[derive(Drop)]
+#[derive(Clone, Copy)]
 pub enum Step {
     Go(Run),
     Stop(Refusal),

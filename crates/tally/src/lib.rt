@@ -1,11 +1,13 @@
 // How a replay counts its entries, and what it says of them.
+#![tactic(auto)]
+
 ghost use Rattle.std.specs.Prelude.{◌≡◌};
 ghost use Rattle.tally.specs.Tally.{nothing, counted_if, ended_at};
 
 use std::num::wrapping_add_u32;
 
 // The entries that agreed and those that didn't, and whether more may follow.
-#[derive(Drop)]
+#[derive(Clone, Copy)]
 pub struct Tally {
     pub agreed: u32,
     pub differ: u32,

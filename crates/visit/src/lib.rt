@@ -1,5 +1,7 @@
 // One visit of an instruction, as the code has it (`RowVisit`): chunk and place, rule, where its row stands in the workspace, heights; its
 // operands, one (here) and all (`operands`); the slots that it names (`slot_range`).
+#![tactic(auto)]
+
 pub mod operands;
 mod slot_range;
 
@@ -16,7 +18,7 @@ use ops::Rule;
 pub use slot_range::{Slots, slots_of};
 use words::{load, mask_at};
 
-#[derive(Drop)]
+#[derive(Clone, Copy)]
 pub struct RowVisit {
     pub chunk: usize,
     pub at: usize,

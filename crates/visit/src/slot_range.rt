@@ -6,7 +6,7 @@ use description::Instr;
 use ops::Data;
 
 // The slots first to end, less end itself.
-#[derive(Drop)]
+#[derive(Clone, Copy)]
 pub struct Slots {
     pub first: usize,
     pub end: usize,

@@ -1,4 +1,6 @@
 // What validation asks of an instruction's operands.
+#![tactic(auto)]
+
 ghost use Rattle.std.specs.Prelude.{◌≡◌};
 ghost use Rattle.masks.specs.Names.{NONE};
 ghost use Rattle.definition.specs.Wants.{require, meet, wants, nothing, never, every, same, stored, part_want, returned_want, want_by};

@@ -1,4 +1,6 @@
 // How control leaves an instruction: its ways, and the local that is narrowed on each.
+#![tactic(auto)]
+
 ghost use Rattle.std.specs.Prelude.{◌≡◌, ◌<◌, ◌^◌};
 ghost use Rattle.definition.specs.Ways.{exit_of, branch, ways_of, receiver_on, narrowing};
 ghost use Rattle.ways.specs.Ways.{targets, receiver};
@@ -10,7 +12,7 @@ use masks::Mask;
 use ops::Exit;
 
 // Up to two targets, the next instruction first.
-#[derive(Drop)]
+#[derive(Clone, Copy)]
 pub enum Ways {
     Zero,
     One(usize),
@@ -18,7 +20,7 @@ pub enum Ways {
 }
 
 // The local that a way narrows to an enum.
-#[derive(Drop)]
+#[derive(Clone, Copy)]
 pub enum Narrows {
     Nothing,
     Local(u16),

@@ -1,4 +1,6 @@
 // Widths, declared shapes, and the width of a scalar kind.
+#![tactic(auto)]
+
 ghost use Rattle.std.specs.Prelude.{◌≡◌};
 ghost use Rattle.widths.specs.Width.{same_width, join_width, scalar_width};
 ghost use Rattle.widths.specs.Shape.{shape_mask, declared_width};
@@ -6,7 +8,7 @@ ghost use Rattle.widths.specs.Shape.{shape_mask, declared_width};
 use masks::Mask;
 
 // What is known of a value's size in bytes.
-#[derive(Drop)]
+#[derive(Clone, Copy)]
 pub enum Width {
     Unknown,
     Scalar(u32),
@@ -14,7 +16,7 @@ pub enum Width {
 }
 
 // A declared shape as the description has it: tag 0 Top, 1 Scalar, 2 Flat; width 0 unknown, 1 scalar, 2 body.
-#[derive(Drop)]
+#[derive(Clone, Copy)]
 pub struct Shape {
     pub tag: u8,
     pub kind: u8,

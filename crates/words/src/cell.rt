@@ -13,13 +13,13 @@ use widths::Width;
 // The words that are the cell's: the last is not.
 pub const CELL_WORDS: usize = 15;
 
-#[derive(Drop)]
+#[derive(Clone, Copy)]
 struct Two(u32, u32);
 
-#[derive(Drop)]
+#[derive(Clone, Copy)]
 struct Three(u32, u32, u32);
 
-#[derive(Drop)]
+#[derive(Clone, Copy)]
 struct Four(Three, Three, Three, Three);
 
 fn two_of(w: Width) -> Two

@@ -1,4 +1,6 @@
 // Cells in 16 words of the workspace: stored, loaded, seen in place; and words set to 0.
+#![tactic(auto)]
+
 mod cell;
 pub mod clearing;
 mod in_place;

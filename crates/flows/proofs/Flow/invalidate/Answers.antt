@@ -1,0 +1,7 @@
+-- `flows::Flow::invalidate` meets its contract.
+use Rattle.flows.specs.Flow.{invalidated}
+use Rattle.flows.proofs.Flow.invalidate.Goals as goal
+
+pub returns : goal.returns
+unfolding invalidated
+returns c = rw (c.without-2.ensures, c.without.ensures)
