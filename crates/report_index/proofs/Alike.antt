@@ -22,12 +22,13 @@ use Rattle.report_index.proofs.Match.{is_same, same-is, among-mem, mem-among}
 use Rattle.report_index.proofs.Laid.{one-for-one, entries_fit}
 
 -- ---- entries that rise: one at most has a chunk and an instruction
-rises-head : (e : Entry) {f : Entry} {fs : List Entry} → rises (e ∷ fs) ≡ true → Memᴰ f fs → is_before f.chunk f.instruction e ≡ true
+rises-head : {f : Entry} (e : Entry) {fs : List Entry} → rises (e ∷ fs) ≡ true → Memᴰ f fs → is_before f.chunk f.instruction e ≡ true
 unfolding rises
 rises-head e {fs = g ∷ fs} h (Memᴰ.head k) = rw k (both (is_before g.chunk g.instruction e) (rises (g ∷ fs)) h).0
-rises-head e {f = f} {fs = g ∷ fs} h (Memᴰ.tail m) =
+rises-head {f = f} e {fs = g ∷ fs} h (Memᴰ.tail m) =
     let b = both (is_before g.chunk g.instruction e) (rises (g ∷ fs)) h in
     before-before f.chunk f.instruction g e b.0 (rises-head g b.1 m)
+rises-head {f = f} e {fs = []} h x5 = elim x5 [ ]
 
 rises-tail : (e : Entry) (fs : List Entry) → rises (e ∷ fs) ≡ true → rises fs ≡ true
 unfolding rises
@@ -42,6 +43,7 @@ rises-one {e = e} {f = f} (g ∷ fs) h (Memᴰ.head a) (Memᴰ.tail n) c i =
 rises-one {e = e} {f = f} (g ∷ fs) h (Memᴰ.tail m) (Memᴰ.head b) c i =
     absurd (before-own e.chunk e.instruction f (sym c) (sym i) (rw (← b) at (rises-head g h m)))
 rises-one (g ∷ fs) h (Memᴰ.tail m) (Memᴰ.tail n) c i = rises-one fs (rises-tail g fs h) m n c i
+rises-one {e = e} {f = f} [] h x5 _ c i = elim x5 [ ]
 
 -- ---- the walk's first record of a chunk and an instruction
 module _ (other : Part) (c i : ℕ) where
@@ -55,6 +57,7 @@ module _ (other : Part) (c i : ℕ) where
       go true k m below = h e (Memᴰ.head refl) k
       go false k (Memᴰ.head j) below = absurd (true≢false (sym n ∙ ap (names c i) j ∙ k))
       go false k (Memᴰ.tail j) below = below j
+  first-is p [] {f = f} h m n = elim m [ ]
 
   pub first-none : (es : List Entry) → ((e : Entry) → Memᴰ e es → names c i e ≡ true → ⊥) → first_of other c i es ≡ other
   unfolding first_of

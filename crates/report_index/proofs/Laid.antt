@@ -52,6 +52,7 @@ module _ (s : List ℕ) where
 laid-mem : {n p : ℕ} {e : Entry} {es : List Entry} → Laid n p es → Memᴰ e es → (p ≤ e.first) × (e.first + e.length ≤ n)
 laid-mem (part a b c l) (Memᴰ.head k) = rw k (a, c)
 laid-mem (part a b c l) (Memᴰ.tail m) = let h = laid-mem l m in (omega arith, h.1)
+laid-mem {n = n} {e = e} (end {p = p}) x4 = elim x4 [ ]
 
 laid-distinct : {n p : ℕ} {es : List Entry} → Laid n p es → Distinct es
 laid-distinct end = tt

@@ -23,6 +23,7 @@ module _ {A : Type 0} where
   without : {x : A} {xs : List A} → Memᴰ x xs → List A
   without {xs = y ∷ ys} (Memᴰ.head e) = ys
   without {xs = y ∷ ys} (Memᴰ.tail m) = y ∷ without m
+  without {xs = []} x3 = elim x3 [ ]
 
   without-length : {x : A} {xs : List A} (m : Memᴰ x xs) → length xs ≡ suc (length (without m))
   unfolding without
@@ -45,6 +46,7 @@ module _ {A : Type 0} where
       (λ n. Memᴰ.tail (pigeonhole xs (without k) d.1 (omega (arith, without-length k))
       (λ z j. ⊎_elim (λ e. absurd (d.0 (Memᴰ.cast (sym e) j))) (λ i. i) (without-cases k (h z (Memᴰ.tail j)))) y n))
       (without-cases k m)
+  pigeonhole [] [] d l h y m = elim m [ ]
 
 -- ---- the tests
 pub same-is : (e f : Entry) → same e f ≡ true → e ≡ f
@@ -79,11 +81,13 @@ pub mem-among : {e : Entry} {fs : List Entry} → Memᴰ e fs → among e fs ≡
 unfolding among
 mem-among {e = e} {fs = f ∷ fs} (Memᴰ.head k) = rw (is_same e f k)
 mem-among {e = e} {fs = f ∷ fs} (Memᴰ.tail m) = rw (mem-among m) (or-true (same e f))
+mem-among {e = e} {fs = []} x'' = elim x'' [ ]
 
 pub all_among_lem : {e : Entry} (es fs : List Entry) → all_among es fs ≡ true → Memᴰ e es → Memᴰ e fs
 unfolding all_among
 all_among_lem (g ∷ es) fs h (Memᴰ.head k) = Memᴰ.cast k (among-mem g fs (both (among g fs) (all_among es fs) h).0)
 all_among_lem (g ∷ es) fs h (Memᴰ.tail m) = all_among_lem es fs (both (among g fs) (all_among es fs) h).1 m
+all_among_lem {e = e} [] fs h x'' = elim x'' [ ]
 
 pub among-all : (es fs : List Entry) → ((e : Entry) → Memᴰ e es → Memᴰ e fs) → all_among es fs ≡ true
 unfolding all_among

@@ -8,24 +8,24 @@ use Rattle.report_index.proofs.Alike.{agreed-rise, answers-disagree, answers-ent
 use Rattle.report_index.proofs.lookup_indexed.Goals as goal
 
 pub returns-then-not-agree : goal.returns-then-not-agree
-returns-then-not-agree c = rw c.nowhere.ensures (answers-disagree _ _ _ _ (sym c.agree.ensures ∙ not-true c.agree.result c.if-not-agree.true))
+returns-then-not-agree c = rw c.nowhere.ensures (answers-disagree _ _ _ _ (sym c.agree.ensures ∙ c.if-not-agree.true))
 
 pub seek-k-requires : goal.seek-k-requires
 unfolding entries_of
-seek-k-requires c = (record { n_in_bounds = omega arith; n_value = agreed-rise _ _ (sym c.agree.ensures ∙ not-false c.agree.result c.if-not-agree.false) })
+seek-k-requires c = record { n_in_bounds = omega arith; n_value = agreed-rise _ _ (sym c.agree.ensures ∙ c.if-not-agree.false) }
 
 pub returns-then-e-chunk : goal.returns-then-e-chunk
 unfolding names
 returns-then-e-chunk c =
     let e = c.entry_no-e.ensures in
-    rw e (answers-entry _ _ (sym c.agree.ensures ∙ not-false c.agree.result c.if-not-agree.false) _ _ _ c.seek-k.ensures c.if-k-n.true (rw e at c.if-e-chunk.true))
+    rw e (answers-entry _ _ (sym c.agree.ensures ∙ c.if-not-agree.false) _ _ _ c.seek-k.ensures c.if-k-n.true (rw e at c.if-e-chunk.true))
 
 pub returns-else-e-chunk : goal.returns-else-e-chunk
 unfolding at_end names
 returns-else-e-chunk c =
     let e = c.entry_no-e.ensures in
-    answers-end _ _ (sym c.agree.ensures ∙ not-false c.agree.result c.if-not-agree.false) _ _ _ c.seek-k.ensures (λ l. rw e at c.if-e-chunk.false)
+    answers-end _ _ (sym c.agree.ensures ∙ c.if-not-agree.false) _ _ _ c.seek-k.ensures (λ l. rw e at c.if-e-chunk.false)
 
 pub returns-else-k-n : goal.returns-else-k-n
 unfolding at_end
-returns-else-k-n c = answers-end _ _ (sym c.agree.ensures ∙ not-false c.agree.result c.if-not-agree.false) _ _ _ c.seek-k.ensures (λ l. absurd (omega arith))
+returns-else-k-n c = answers-end _ _ (sym c.agree.ensures ∙ c.if-not-agree.false) _ _ _ c.seek-k.ensures (λ l. absurd (omega arith))

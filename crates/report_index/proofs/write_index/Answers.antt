@@ -25,7 +25,7 @@ put_entry-to-requires c =
     let l = c.loop-at in
     let e = c.end_at-end.ensures.0 in
     let w = rw (entries-record _ l.at c.loop-at-test.true (rw e at c.if-n-end.false) (sym c.is_record.ensures ∙ c.if-is_record.true)) at l.invariant.2 in
-    (record { at_in_bounds = left-room w c.requires.1; first_bound = rw c.entry_at.ensures (omega arith, omega arith) })
+    record { at_in_bounds = left-room w c.requires.report_in_bounds; first_bound = rw c.entry_at.ensures (omega arith, omega arith) }
 
 pub loop-at-preserved-then-is_record : goal.loop-at-preserved-then-is_record
 loop-at-preserved-then-is_record c =

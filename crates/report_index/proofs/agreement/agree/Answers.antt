@@ -13,11 +13,11 @@ returns-then-index-ne0 c = rw (ne_eqb (length c.args.index.now % 12) 0 c.if-inde
 
 pub returns-then-not-rise : goal.returns-then-not-rise
 unfolding agrees entries_of
-returns-then-not-rise c = rw (eq-eqb (length c.args.index.now % 12) 0 c.if-index-ne0.false, ← c.rise.ensures, not-true c.rise.result c.if-not-rise.true)
+returns-then-not-rise c = rw (eq-eqb (length c.args.index.now % 12) 0 c.if-index-ne0.false, ← c.rise.ensures, c.if-not-rise.true)
 
 pub match_records-requires : goal.match_records-requires
-match_records-requires c = (record { n_in_bounds = omega arith; n_value = sym c.rise.ensures ∙ not-false c.rise.result c.if-not-rise.false })
+match_records-requires c = record { n_in_bounds = omega arith; n_value = sym c.rise.ensures ∙ c.if-not-rise.false }
 
 pub returns : goal.returns
 unfolding agrees entries_of
-returns c = rw (eq-eqb (length c.args.index.now % 12) 0 c.if-index-ne0.false, ← c.rise.ensures, not-false c.rise.result c.if-not-rise.false) c.match_records.ensures
+returns c = rw (eq-eqb (length c.args.index.now % 12) 0 c.if-index-ne0.false, ← c.rise.ensures, c.if-not-rise.false) c.match_records.ensures

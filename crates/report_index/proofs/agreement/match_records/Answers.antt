@@ -3,7 +3,6 @@ use Prim.Native.Nat.{◌-◌}
 use native.Mathlib.Omega.{arith}
 use mathlib.Core.Path.{refl}
 use lib.ListN.{length}
-use borrow.Author.Tests.{not-true, not-false}
 use Rattle.lookup.proofs.Turns.{entries-end, entries-overrun}
 use Rattle.report_index.specs.Index.{entries_no}
 use Rattle.report_index.proofs.agreement.Laws.{length-entries, tally-start, tally-end, tally-other, tally-record, tally-missing}
@@ -29,7 +28,7 @@ returns-then-not-is_among c =
     let fs = entries_no a.index.now 0 a.n in
     tally-missing a.report.now fs l.at l.records l.invariant.3 c.loop-at-test.true c.end_at-end.result c.end_at-end.ensures.0 c.if-m-end.false
     c.is_record.result c.is_record.ensures c.if-is_record.true c.entry_at.result c.entry_at.ensures c.is_among.result c.is_among.ensures
-    (not-true c.is_among.result c.if-not-is_among.true)
+    c.if-not-is_among.true
 
 pub loop-at-preserved-else-not-is_among : goal.loop-at-preserved-else-not-is_among
 loop-at-preserved-else-not-is_among c =
@@ -37,7 +36,7 @@ loop-at-preserved-else-not-is_among c =
     let l = c.loop-at in
     let fs = entries_no a.index.now 0 a.n in
     let t = tally-record a.report.now fs l.at l.records l.invariant.3 c.loop-at-test.true c.end_at-end.result c.end_at-end.ensures.0 c.if-m-end.false
-    c.is_record.result c.is_record.ensures c.if-is_record.true c.entry_at.result c.entry_at.ensures c.is_among.result c.is_among.ensures (not-false c.is_among.result c.if-not-is_among.false) in
+    c.is_record.result c.is_record.ensures c.if-is_record.true c.entry_at.result c.entry_at.ensures c.is_among.result c.is_among.ensures c.if-not-is_among.false in
     (refl, omega arith, omega arith, t)
 
 pub loop-at-preserved : goal.loop-at-preserved

@@ -2,7 +2,6 @@
 use Prim.Native.Nat.{◌-◌}
 use native.Mathlib.Omega.{arith}
 use mathlib.Core.Path.{sym}
-use borrow.Author.Tests.{not-true, not-false}
 use Rattle.report_index.proofs.entries.Laws.{climbing-rises, climbing-more, climbing-ends}
 use Rattle.report_index.proofs.agreement.rise.Goals as goal
 
@@ -14,14 +13,14 @@ returns-then-not-is_before c =
     let a = c.args in
     let l = c.loop-k in
     let e = rw c.entry_no-e.ensures at c.is_before.ensures in
-    sym (climbing-ends a.index.now l.k c.is_before.result e a.n l.invariant.0 c.loop-k-test.true (not-true c.is_before.result c.if-not-is_before.true))
+    sym (climbing-ends a.index.now l.k c.is_before.result e a.n l.invariant.0 c.loop-k-test.true c.if-not-is_before.true)
 
 pub loop-k-preserved : goal.loop-k-preserved
 loop-k-preserved c =
     let a = c.args in
     let l = c.loop-k in
     let e = rw c.entry_no-e.ensures at c.is_before.ensures in
-    (omega arith, climbing-more a.index.now l.k c.is_before.result e l.invariant.1 (not-false c.is_before.result c.if-not-is_before.false))
+    (omega arith, climbing-more a.index.now l.k c.is_before.result e l.invariant.1 c.if-not-is_before.false)
 
 pub returns : goal.returns
 returns c =
