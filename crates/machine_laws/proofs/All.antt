@@ -25,12 +25,12 @@ module _ {A : Type 0} (P : A → Type 0) where
   all_replicate zero p = nil
   all_replicate (suc n) p = cons p (all_replicate n p)
 
-  pub all_take : {xs : List A} (n : ℕ) → All P xs → All P (take n xs)
+  pub all_take : (n : ℕ) {xs : List A} → All P xs → All P (take n xs)
   all_take zero a = nil
   all_take (suc n) nil = nil
   all_take (suc n) (cons p a) = cons p (all_take n a)
 
-  pub all_drop : {xs : List A} (n : ℕ) → All P xs → All P (drop n xs)
+  pub all_drop : (n : ℕ) {xs : List A} → All P xs → All P (drop n xs)
   all_drop zero a = a
   all_drop (suc n) nil = nil
   all_drop (suc n) (cons p a) = all_drop n a
@@ -43,6 +43,7 @@ all_of P d (x ∷ xs) h = cons (h 0 (omega arith)) (all_of P d xs (λ i l. h (su
 pub all-mem : {A : Type 0} {P : A → Type 0} {x : A} {xs : List A} → All P xs → Memᴰ x xs → P x
 all-mem {P = P} (cons p a) (Memᴰ.head e) = rw e p
 all-mem (cons p a) (Memᴰ.tail m) = all-mem a m
+all-mem {A = A} {P = P} nil x4 = elim x4 [ ]
 
 pub all_map : {A B : Type 0} {P : A → Type 0} (Q : B → Type 0) (f : A → B) {xs : List A} → ((x : A) → P x → Q (f x)) → All P xs → All Q (map f xs)
 all_map Q f h nil = nil
