@@ -204,7 +204,7 @@ module _ (s : List ℕ) (t : Tables) (e : t ≡ tables_of s) where
 
     pub shared-at : (k : ℕ) → k < t.shared → get_or (of_tag 6 s (fields_from s 0)) k 0 ≡ t.shared_at + 4 * k
     unfolding tables_of
-    shared-at k h = omega (arith, g.sharedAt k (omega (arith, shared-are)), ap (λ (x : Tables). x.shared_at) e)
+    shared-at k h = omega (arith, g.shared_at k (omega (arith, shared-are)), ap (λ (x : Tables). x.shared_at) e)
 
     pub shared-small : (k : ℕ) → k < t.shared → t.shared_at + 4 * k < length s
     shared-small k h = omega (arith, shared-at k h, (tag_in s 6 k (omega (arith, shared-are, shared-count s))).below)
