@@ -46,7 +46,7 @@ outputs-read {s} {q} (cons {x = o} {xs = os} p ps) h =
     has-at (q + 51) (omega arith) (has_right 49 (cell_bytes o.cell) (outputs_bytes os) (cell-long o.cell p.four) h₁) in
     ap₂ (λ a b. a ∷ b)
     (output-same o _ _ (read16 _ (has_left (le16 o.slot) rest h)) (cell-read o.cell p (has_left (cell_bytes o.cell) (outputs_bytes os) h₁)))
-    (outputs-read ps h₂)
+    (outputs-read {q = q + 51} ps h₂)
 
 pub guards-long : (gs : List Guarded) → length (guards_bytes gs) ≡ 4 * length gs
 unfolding guards_bytes
@@ -73,7 +73,7 @@ guards-read {s} {q} (g ∷ gs) h =
     let h₂ : Has s (q + 4) (guards_bytes gs) = has-at (q + 4) (omega arith) (has_right 2 (le16 g.mask.bits) (guards_bytes gs) (long16 _) h₁) in
     ap₂ (λ a b. a ∷ b)
     (guard-same g _ _ (read16 _ (has_left (le16 g.place) rest h)) (read16 _ (has_left (le16 g.mask.bits) (guards_bytes gs) h₁)))
-    (guards-read gs h₂)
+    (guards-read {q = q + 4} gs h₂)
 
 -- ---- the contents of each field
 abbrev pub signature_in : Signature → List ℕ

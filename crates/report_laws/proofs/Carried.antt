@@ -243,7 +243,7 @@ module _ (P : Cell → Type 0) (Q : Flow → Type 0) (M : Mask → Type 0) (W : 
     mask-slots : (m : Module) (f : Facts) (so : Mask) (ns : List ℕ) → FactsHave f → M so → M (kinds_in m f so ns)
     unfolding kinds_in
     mask-slots m f so [] p q = q
-    mask-slots m f so (n ∷ ns) p q = mask-slots m f _ ns p (laws.unions so (slot m f n) q (mask-slot m f n p))
+    mask-slots m f so (n ∷ ns) p q = mask-slots m f (union so (slot m f n)) ns p (laws.unions so (slot m f n) q (mask-slot m f n p))
 
     -- ---- widths
     width-pick : (b : Bool) {w x : Width} → W w → W x → W (cond b w x)
@@ -267,7 +267,7 @@ module _ (P : Cell → Type 0) (Q : Flow → Type 0) (M : Mask → Type 0) (W : 
     width-slots : (m : Module) (f : Facts) (so : Width) (ns : List ℕ) → W so → W (width_in m f so ns)
     unfolding width_in
     width-slots m f so [] p = p
-    width-slots m f so (n ∷ ns) p = width-slots m f _ ns (width-pick (same_width so (data_width m f n)) p laws.wide)
+    width-slots m f so (n ∷ ns) p = width-slots m f (cond (same_width so (data_width m f n)) so Wide) ns (width-pick (same_width so (data_width m f n)) p laws.wide)
 
     -- ---- cells
     cell-made : (m : Mask) (n : ℕ) → M m → P (made m n)
@@ -304,7 +304,7 @@ module _ (P : Cell → Type 0) (Q : Flow → Type 0) (M : Mask → Type 0) (W : 
     flow-in : (f : Facts) (so : Flow) (ns : List ℕ) → FactsHave f → Q so → Q (flow_in f so ns)
     unfolding flow_in
     flow-in f so [] p q = q
-    flow-in f so (n ∷ ns) p q = flow-in f _ ns p (laws.flow-join so _ q (all-get Q n laws.flow-none p.flows))
+    flow-in f so (n ∷ ns) p q = flow-in f (join_flow so (get_or f.flows n no_flow)) ns p (laws.flow-join so _ q (all-get Q n laws.flow-none p.flows))
 
     cell-read : (m : Module) (f : Facts) (n : ℕ) (ns : List ℕ) → FactsHave f → P (read_slots m f n ns)
     unfolding read_slots
@@ -654,12 +654,12 @@ module _ (P : Cell → Type 0) (Q : Flow → Type 0) (M : Mask → Type 0) (W : 
     in-has : (m : Module) (c : Cell) {xs : List Line} → All LineHas xs → P c → P (reply_in m c xs)
     unfolding reply_in
     in-has m c nil p = p
-    in-has m c (cons {x = x} h a) p = in-has m _ a (site-has m c x.site h.reply p)
+    in-has m c (cons {x = x} h a) p = in-has m (site_reply m c x.site) a (site-has m c x.site h.reply p)
 
     replies-have : (m : Module) (c : Cell) {cs : List Chunk} → All ChunkHas cs → P c → P (replies m c cs)
     unfolding replies
     replies-have m c nil p = p
-    replies-have m c (cons h a) p = replies-have m _ a (in-has m c h.code p)
+    replies-have m c (cons {x = x} {xs = xs} h a) p = replies-have m (reply_in m c x.code) a (in-has m c h.code p)
 
     head-has : {cs : List Cell} → All P cs → P (first_reply cs)
     unfolding first_reply

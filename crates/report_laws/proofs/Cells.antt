@@ -68,9 +68,9 @@ extent-long Unknown = refl
 bodies-read : {s : List ℕ} {q : ℕ} (xs : List Extent) → Has s q (bodies_bytes xs) → row_at (read_extent s) 9 q (length xs) ≡ xs
 unfolding bodies_bytes row_at
 bodies-read [] h = refl
-bodies-read (x ∷ xs) h =
+bodies-read {q = q} (x ∷ xs) h =
     ap₂ (λ a b. a ∷ b) (extent-read x.body (has_left (body_bytes x.body) (bodies_bytes xs) h))
-    (bodies-read xs (has_right 9 (body_bytes x.body) (bodies_bytes xs) (extent-long x.body) h))
+    (bodies-read {q = q + 9} xs (has_right 9 (body_bytes x.body) (bodies_bytes xs) (extent-long x.body) h))
 
 pub bodies-long : (xs : List Extent) → length (bodies_bytes xs) ≡ 9 * length xs
 unfolding bodies_bytes
@@ -159,6 +159,6 @@ cells-long (cons {x = c} {xs = cs} p ps) = omega (arith, length-append (cell_byt
 pub cells-read : {s : List ℕ} {q : ℕ} {cs : List Cell} → All Proper cs → Has s q (cells_bytes cs) → read_cells s q (length cs) ≡ cs
 unfolding cells_bytes read_cells row_at
 cells-read nil h = refl
-cells-read (cons {x = c} {xs = cs} p ps) h =
+cells-read {s = s} {q = q} (cons {x = c} {xs = cs} p ps) h =
     ap₂ (λ a b. a ∷ b) (cell-read c p (has_left (cell_bytes c) (cells_bytes cs) h))
-    (cells-read ps (has_right 49 (cell_bytes c) (cells_bytes cs) (cell-long c p.four) h))
+    (cells-read {q = q + 49} ps (has_right 49 (cell_bytes c) (cells_bytes cs) (cell-long c p.four) h))

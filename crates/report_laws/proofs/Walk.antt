@@ -80,7 +80,7 @@ module _ {A : Type 0} (tag : ℕ) (contents : A → List ℕ) where
       let e : p + (3 + length (contents x)) + length (group xs) ≡ p + length (field tag (contents x) ++ group xs) = omega arith in
       fields-turn s p (omega arith)
       ∙ ap (λ q. p ∷ fields_from s q) t
-      ∙ ap (λ ps. p ∷ ps) (group-walk xs h' (omega arith))
+      ∙ ap (λ ps. p ∷ ps) (group-walk {p = p + (3 + length (contents x))} xs h' (omega arith))
       ∙ ap (λ q. p ∷ (places (p + (3 + length (contents x))) xs ++ fields_from s q)) e
 
   -- they have this tag
@@ -90,7 +90,7 @@ module _ {A : Type 0} (tag : ℕ) (contents : A → List ℕ) where
   group-own {s} {p} (x ∷ xs) h =
       let r = field-read tag (contents x) (has_left (field tag (contents x)) (group xs) h) in
       let h' = has_right (3 + length (contents x)) (field tag (contents x)) (group xs) (field-long tag (contents x)) h in
-      rw (eq-eqb (tag_at s p) tag r.0) (ap (λ ps. p ∷ ps) (group-own xs h'))
+      rw (eq-eqb (tag_at s p) tag r.0) (ap (λ ps. p ∷ ps) (group-own {p = p + (3 + length (contents x))} xs h'))
 
   -- and no other
   pub group-other : {s : List ℕ} {p : ℕ} (t : ℕ) (xs : List A) → (tag ≡ t → ⊥) → Has s p (group xs) → of_tag t s (places p xs) ≡ []
@@ -99,13 +99,13 @@ module _ {A : Type 0} (tag : ℕ) (contents : A → List ℕ) where
   group-other {s} {p} t (x ∷ xs) ne h =
       let r = field-read tag (contents x) (has_left (field tag (contents x)) (group xs) h) in
       let h' = has_right (3 + length (contents x)) (field tag (contents x)) (group xs) (field-long tag (contents x)) h in
-      rw (ne_eqb (tag_at s p) t (λ e. ne (sym r.0 ∙ e))) (group-other t xs ne h')
+      rw (ne_eqb (tag_at s p) t (λ e. ne (sym r.0 ∙ e))) (group-other {p = p + (3 + length (contents x))} t xs ne h')
 
   -- what is read at their places
-  pub group-read : {s : List ℕ} {p : ℕ} {xs : List A} (Ok : A → Type 0) (read : ℕ → A) → ((q : ℕ) (x : A) → Ok x → Has s q (field tag (contents x)) → read q ≡ x)
-      → All Ok xs → Has s p (group xs) → map read (places p xs) ≡ xs
+  pub group-read : {s : List ℕ} (Ok : A → Type 0) (read : ℕ → A) → ((q : ℕ) (x : A) → Ok x → Has s q (field tag (contents x)) → read q ≡ x)
+      → {p : ℕ} {xs : List A} → All Ok xs → Has s p (group xs) → map read (places p xs) ≡ xs
   unfolding each places
   group-read Ok read ok nil h = refl
-  group-read {s} {p} Ok read ok (cons {x = x} {xs = xs} o os) h =
+  group-read {s} Ok read ok {p} (cons {x = x} {xs = xs} o os) h =
       ap₂ (λ a b. a ∷ b) (ok p x o (has_left (field tag (contents x)) (group xs) h))
-      (group-read Ok read ok os (has_right (3 + length (contents x)) (field tag (contents x)) (group xs) (field-long tag (contents x)) h))
+      (group-read Ok read ok {p = p + (3 + length (contents x))} os (has_right (3 + length (contents x)) (field tag (contents x)) (group xs) (field-long tag (contents x)) h))
