@@ -10,8 +10,8 @@ returns c = (
     at = omega (arith, c.requires);
     rows = omega (arith, c.requires, c.wide_size-params.ensures.0, c.params_in.ensures);
     count = omega arith;
-    locals = omega (arith, c.chunk_head_at-h.type-inv);
-    stack = omega (arith, c.chunk_head_at-h.type-inv);
+    locals = omega (arith, c.chunk_head_at-h.type_inv);
+    stack = omega (arith, c.chunk_head_at-h.type_inv);
     inputs = omega (arith, c.requires);
     params = omega (arith, c.requires, c.wide_size-params.ensures.0, c.params_in.ensures);
   },

@@ -9,4 +9,4 @@ read_chunk-requires c = omega (arith, numbers-room _ _ c.requires.indexed c.args
 pub returns : goal.returns
 returns c =
     let p = c.requires in
-    cc (chunk_read_lem _ _ c.args.c (p.0.numbers c.args.c p.1))
+    cc (chunk_read_lem _ _ c.args.c (p.indexed.numbers c.args.c p.c_in_bounds))

@@ -9,25 +9,25 @@ pub overflow_mul-i : goal.overflow_mul-i
 overflow_mul-i c =
     let a = c.args in
     let p = c.requires in
-    omega (arith, p.0.long, native-small a.s.now a.t p.1.0 _ p.0 a.i p.1.1)
+    omega (arith, p.good.long, native-small a.s.now a.t p.t_value _ p.good a.i p.i_lt_natives)
 
 pub overflow_add-t : goal.overflow_add-t
 overflow_add-t c =
     let a = c.args in
     let p = c.requires in
-    omega (arith, p.0.long, native-small a.s.now a.t p.1.0 _ p.0 a.i p.1.1)
+    omega (arith, p.good.long, native-small a.s.now a.t p.t_value _ p.good a.i p.i_lt_natives)
 
 pub overflow_add-t-2 : goal.overflow_add-t-2
 overflow_add-t-2 c =
     let a = c.args in
     let p = c.requires in
-    omega (arith, p.0.long, native-small a.s.now a.t p.1.0 _ p.0 a.i p.1.1)
+    omega (arith, p.good.long, native-small a.s.now a.t p.t_value _ p.good a.i p.i_lt_natives)
 
 pub shape_at-requires : goal.shape_at-requires
 shape_at-requires c =
     let a = c.args in
     let p = c.requires in
-    omega (arith, p.0.long, native-small a.s.now a.t p.1.0 _ p.0 a.i p.1.1)
+    omega (arith, p.good.long, native-small a.s.now a.t p.t_value _ p.good a.i p.i_lt_natives)
 
 pub returns : goal.returns
 unfolding native_of
@@ -35,4 +35,4 @@ returns c =
     let a = c.args in
     let p = c.requires in
     c.shape_at.ensures
-    ∙ sym (ap (λ (x : Native). x.shape) (native-is a.s.now a.t p.1.0 _ p.0 a.i p.1.1))
+    ∙ sym (ap (λ (x : Native). x.shape) (native-is a.s.now a.t p.t_value _ p.good a.i p.i_lt_natives))

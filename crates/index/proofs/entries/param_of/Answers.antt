@@ -10,12 +10,12 @@ pub param_at-requires : goal.param_at-requires
 param_at-requires c =
     let a = c.args in
     let p = c.requires in
-    (omega (arith, p.0.long, p.1.1.0, place-small a.s.now a.c p.1.0), omega (arith, p.1.1.1, (p.0.each_chunk a.c p.1.0).params))
+    (omega (arith, p.good.long, p.at_value, place-small a.s.now a.c p.c_in_bounds), omega (arith, p.k_in_bounds, (p.good.each_chunk a.c p.c_in_bounds).params))
 
 pub returns : goal.returns
 returns c =
     let a = c.args in
     let p = c.requires in
     c.param_at.ensures
-    ∙ ap (λ (q : ℕ). param_of a.s.now q a.k) p.1.1.0
-    ∙ sym (param_is a.s.now a.c p.1.0 a.k p.1.1.1)
+    ∙ ap (λ (q : ℕ). param_of a.s.now q a.k) p.at_value
+    ∙ sym (param_is a.s.now a.c p.c_in_bounds a.k p.k_in_bounds)

@@ -9,10 +9,10 @@ pub declared_result-requires : goal.declared_result-requires
 declared_result-requires c =
     let a = c.args in
     let p = c.requires in
-    omega (arith, p.0.long, p.1.1, place-small a.s.now a.c p.1.0)
+    omega (arith, p.good.long, p.at_value, place-small a.s.now a.c p.c_in_bounds)
 
 pub returns : goal.returns
 returns c =
     let a = c.args in
     let p = c.requires in
-    c.declared_result.ensures ∙ ap (result_of a.s.now) p.1.1 ∙ sym (declared-is a.s.now a.c p.1.0)
+    c.declared_result.ensures ∙ ap (result_of a.s.now) p.at_value ∙ sym (declared-is a.s.now a.c p.c_in_bounds)

@@ -13,7 +13,7 @@ keep_all-low-requires c =
 pub keep_all-high-requires : goal.keep_all-high-requires
 keep_all-high-requires c =
     let a = c.args in
-    places_behind a.ws.now _ a.from a.to a.n a.set.local c.requires.places_apart c.requires.local_lt_n (c.join_one-one.auto.0 ∙ c.keep_all-low.auto.0)
+    places_behind a.ws.now _ a.from a.to a.n a.set.local c.requires.places_apart c.requires.local_lt_n (c.join_one-one.auto.ws ∙ c.keep_all-low.auto.ws)
 
 pub returns : goal.returns
 returns c =

@@ -6,10 +6,10 @@ use Rattle.row_join.proofs.joining.leave_kept.Goals as goal
 pub leave_stack-a-requires : goal.leave_stack-a-requires
 leave_stack-a-requires c =
     let r = c.requires.join_ready in
-    (stack_places r c.requires.resets_value, (r.above c.requires.resets_value, omega (arith, r.to, r.height)))
+    record { places_apart = stack_places r c.requires.resets_value; start_le_height = (r.above c.requires.resets_value, omega (arith, r.to, r.height)) }
 
 pub keep_locals-b-requires : goal.keep_locals-b-requires
-keep_locals-b-requires c = locals-places c.requires.join_ready _ c.leave_stack-a.auto.0
+keep_locals-b-requires c = locals-places c.requires.join_ready _ c.leave_stack-a.auto.ws
 
 pub returns : goal.returns
 returns c =

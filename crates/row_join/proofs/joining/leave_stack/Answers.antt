@@ -8,7 +8,7 @@ pub overflow_sub-l : goal.overflow_sub-l
 overflow_sub-l c = c.requires.start_le_height.0
 
 pub put_outputs-b-requires : goal.put_outputs-b-requires
-put_outputs-b-requires c = omega (arith, c.requires.start_le_height, c.keep_all-a.auto.0)
+put_outputs-b-requires c = omega (arith, c.requires.start_le_height, c.keep_all-a.auto.ws)
 
 pub returns : goal.returns
 returns c =

@@ -20,7 +20,7 @@ pub loop-p-preserved : goal.loop-p-preserved
 loop-p-preserved c =
     let a = c.args in
     let l = c.loop-p in
-    (kept_more (kept_cell a.forget a.narrow) a.fresh a.from a.to a.n l.p a.ws.now l.ws _ l.changed _ c.requires c.loop-p-test.true l.invariant.0 c.keep_one-changed.ensures, omega arith, c.keep_one-changed.auto.0 ∙ l.invariant.2)
+    (kept_more (kept_cell a.forget a.narrow) a.fresh a.from a.to a.n l.p a.ws.now l.ws _ l.changed _ c.requires c.loop-p-test.true l.invariant.0 c.keep_one-changed.ensures, omega arith, c.keep_one-changed.auto.ws ∙ l.invariant.2)
 
 pub shape_of-ws : goal.shape_of-ws
 shape_of-ws c = c.loop-p.invariant.2

@@ -18,4 +18,4 @@ returns-then-same16 c =
 
 pub returns : goal.returns
 unfolding kept_cell
-returns c = rw c.if-fresh.false c.before.before.join_Kept.ensures
+returns c = rw c.if-fresh.false c.before.before.join_kept.ensures

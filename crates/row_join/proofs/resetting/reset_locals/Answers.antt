@@ -15,7 +15,7 @@ pub loop-k-preserved : goal.loop-k-preserved
 loop-k-preserved c =
     let a = c.args in
     let l = c.loop-k in
-    (row_more (reset_at a.streams a.reply) a.fresh a.to l.k a.ws.now l.ws _ l.changed _ l.invariant.0 (rw c.reset_cell.ensures at c.join_one-changed.ensures), omega arith, c.join_one-changed.auto.0 ∙ l.invariant.2)
+    (row_more (reset_at a.streams a.reply) a.fresh a.to l.k a.ws.now l.ws _ l.changed _ l.invariant.0 (rw c.reset_cell.ensures at c.join_one-changed.ensures), omega arith, c.join_one-changed.auto.ws ∙ l.invariant.2)
 
 pub shape_of-ws : goal.shape_of-ws
 shape_of-ws c = c.loop-k.invariant.2
