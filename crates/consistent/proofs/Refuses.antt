@@ -82,6 +82,7 @@ is_recorded c i (x ∷ xs) = (eqb x.chunk c && eqb x.instruction i) || is_record
 listed-is : (c i : ℕ) (x : Record) (xs : List Record) → Memᴰ x xs → x.chunk ≡ c → x.instruction ≡ i → is_recorded c i xs ≡ true
 listed-is c i x (y ∷ ys) (Memᴰ.head e) p q = rw (← e, eq-eqb x.chunk c p, eq-eqb x.instruction i q)
 listed-is c i x (y ∷ ys) (Memᴰ.tail m) p q = or-true (eqb y.chunk c && eqb y.instruction i) _ (listed-is c i x ys m p q)
+listed-is c i x [] x4 p q = elim x4 [ ]
 
 -- ---- what is given, by kinds
 abbrev take_in : List Cell → List Cell → Bool
@@ -218,10 +219,12 @@ module _ (m : Module) (r : Report) (c : Chunk) (among : ℕ → Bool) where
   way-among : (ws : List (ℕ × State)) (w : ℕ × State) → all_among ws ≡ true → Memᴰ w ws → among w.0 ≡ true
   way-among (y ∷ ys) w h (Memᴰ.head e) = rw e (both (among y.0) (all_among ys) h).0
   way-among (y ∷ ys) w h (Memᴰ.tail k) = way-among ys w (both (among y.0) (all_among ys) h).1 k
+  way-among [] w h x3 = elim x3 [ ]
 
   record-stays : (xs : List Record) (x : Record) → all_stay xs ≡ true → Memᴰ x xs → stays x ≡ true
   record-stays (y ∷ ys) x h (Memᴰ.head e) = rw e (both (stays y) (all_stay ys) h).0
   record-stays (y ∷ ys) x h (Memᴰ.tail k) = record-stays ys x (both (stays y) (all_stay ys) h).1 k
+  record-stays [] x h x4 = elim x4 [ ]
 
   same-ways : (i j : ℕ) (s t : State) → i ≡ j → s ≡ t → all_among (leaving (visit_at m r c i s)) ≡ true → all_among (leaving (visit_at m r c j t)) ≡ true
   same-ways i j s t p q h = ap₂ (λ (k : ℕ) (u : State). all_among (leaving (visit_at m r c k u))) (sym p) (sym q) ∙ h

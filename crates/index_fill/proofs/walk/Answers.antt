@@ -19,7 +19,7 @@ pub fill_code-w-requires : goal.fill_code-w-requires
 fill_code-w-requires c = going-code _ _ _ _ _ _ _ _ c.loop-at.invariant _ c.loop-at-test.true c.tag_at-tag.ensures
 
 pub fill_slot-requires : goal.fill_slot-requires
-fill_slot-requires c = going-slots _ _ _ _ _ _ _ _ c.loop-at.invariant c.fill_code-w.new.w c.fill_code-w.auto.w
+fill_slot-requires c = going-slots _ _ _ _ _ _ _ _ c.loop-at.invariant c.fill_code-w.new.ws c.fill_code-w.auto.ws
 
 pub tables_after-t-requires : goal.tables_after-t-requires
 tables_after-t-requires c = going-tables _ _ _ _ _ _ _ _ c.loop-at.invariant
