@@ -1,0 +1,10 @@
+-- `report_bound::least` meets its contract.
+use native.Mathlib.Omega.{arith}
+use borrow.Author.Tests.{lt-ltb, le-ltb}
+use Rattle.report_bound.proofs.least.Goals as goal
+
+pub returns-then-a-b : goal.returns-then-a-b
+returns-then-a-b c = (simp (lt-ltb _ _ c.if-a-b.true), omega arith, omega arith)
+
+pub returns-else-a-b : goal.returns-else-a-b
+returns-else-a-b c = (simp (le-ltb _ _ c.if-a-b.false), omega arith, omega arith)
