@@ -5,7 +5,7 @@ use Rattle.definition.specs.Data.{read_slots}
 use Rattle.slots.proofs.read_slots.Goals as goal
 
 pub slot_placed-requires : goal.slot_placed-requires
-slot_placed-requires c = (c.requires.indexed, (c.requires.t_value, omega (arith, c.requires.first_le_end)))
+slot_placed-requires c = record { indexed = c.requires.indexed; t_value = c.requires.t_value; slot_le_slots = omega (arith, c.requires.first_le_end) }
 
 pub returns-then-slot_placed : goal.returns-then-slot_placed
 unfolding read_slots

@@ -19,7 +19,7 @@ loop-k-init c =
     ap (width_in m f c.slot_width-w.result) (from_first a.r) ∙ ap (λ (w : Width). width_in m f w (list_of a.r)) c.slot_width-w.ensures
 
 pub slot_width-requires : goal.slot_width-requires
-slot_width-requires c = (c.requires.indexed, (c.requires.t_value, omega (arith, c.loop-k-test.true, c.requires.first_le_end)))
+slot_width-requires c = record { indexed = c.requires.indexed; t_value = c.requires.t_value; n_le_slots = omega (arith, c.loop-k-test.true, c.requires.first_le_end) }
 
 pub loop-k-preserved : goal.loop-k-preserved
 loop-k-preserved c =

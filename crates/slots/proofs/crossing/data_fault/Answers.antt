@@ -9,10 +9,10 @@ use Rattle.slots.proofs.Faults.{fault-one, fault-many}
 use Rattle.slots.proofs.crossing.data_fault.Goals as goal
 
 pub access_fault-requires : goal.access_fault-requires
-access_fault-requires c = (c.requires.indexed, (c.requires.t_value, omega (arith, c.slots_of.ensures)))
+access_fault-requires c = record { indexed = c.requires.indexed; t_value = c.requires.t_value; first_le_end = omega (arith, c.slots_of.ensures) }
 
 pub access_fault-requires-in-ManySlots : goal.access_fault-requires-in-ManySlots
-access_fault-requires-in-ManySlots c = (c.requires.indexed, (c.requires.t_value, omega (arith, c.slots_of-in-ManySlots.ensures)))
+access_fault-requires-in-ManySlots c = record { indexed = c.requires.indexed; t_value = c.requires.t_value; first_le_end = omega (arith, c.slots_of-in-ManySlots.ensures) }
 
 pub returns-in-NoSlot : goal.returns-in-NoSlot
 unfolding data_fault
