@@ -13,5 +13,5 @@ returns c =
     let g = c.most_guards-guards in
     let e = record_is a.w.locals a.w.stack a.w.height a.w.entry a.i x.result x.ensures k.result n.result h.result g.result k.ensures n.ensures.0 h.ensures.0 g.ensures.0 in
     -- the bounds of the arguments lie further back than `omega` looks
-    let b = c.before.before.before.before.before.before.before.before.before.before.well-formed in
+    let b = c.before.before.before.before.before.before.before.before.before.before.well_formed in
     (e, omega (arith, b, g.ensures.1, h.ensures.2, n.ensures.1))

@@ -24,14 +24,14 @@ pub slot_at-requires : goal.slot_at-requires
 slot_at-requires c =
     let a = c.args in
     let p = c.requires in
-    let r = slot-known a.s.now a.ws.now a.t c.loop-k.k p.indexed p.1.0 (omega (arith, c.loop-k-test.true, p.1.1)) in
+    let r = slot-known a.s.now a.ws.now a.t c.loop-k.k p.indexed p.t_value (omega (arith, c.loop-k-test.true, p.end_le_slots)) in
     omega arith
 
 pub load-c-requires : goal.load-c-requires
 load-c-requires c =
     let a = c.args in
     let p = c.requires in
-    let r = slot-known a.s.now a.ws.now a.t c.loop-k.k p.indexed p.1.0 (omega (arith, c.loop-k-test.true, p.1.1)) in
+    let r = slot-known a.s.now a.ws.now a.t c.loop-k.k p.indexed p.t_value (omega (arith, c.loop-k-test.true, p.end_le_slots)) in
     omega arith
 
 pub loop-k-preserved : goal.loop-k-preserved
@@ -40,7 +40,7 @@ loop-k-preserved c =
     let p = c.requires in
     let f = facts_in a.s.now a.ws.now in
     let k = c.loop-k.k in
-    let r = slot-known a.s.now a.ws.now a.t k p.indexed p.1.0 (omega (arith, c.loop-k-test.true, p.1.1)) in
+    let r = slot-known a.s.now a.ws.now a.t k p.indexed p.t_value (omega (arith, c.loop-k-test.true, p.end_le_slots)) in
     ap (λ (u : Flow). flow_in f u (from (k + 1) a.r.end))
     (c.with-f.ensures
     ∙ ap (λ (x : Cell). join_flow c.loop-k.f x.flow) (c.load-c.ensures ∙ ap (cell_at a.ws.now) (c.slot_at.ensures ∙ r.at))

@@ -19,23 +19,23 @@ pub slot_at-requires : goal.slot_at-requires
 slot_at-requires c =
     let a = c.args in
     let p = c.requires in
-    let r = slot-known a.s.now a.ws.now a.t a.n p.indexed p.1.0 c.if-n-t-2.true in
+    let r = slot-known a.s.now a.ws.now a.t a.n p.indexed p.t_value c.if-n-t-2.true in
     omega arith
 
 pub mask_at-requires : goal.mask_at-requires
 mask_at-requires c =
     let a = c.args in
     let p = c.requires in
-    let r = slot-known a.s.now a.ws.now a.t a.n p.indexed p.1.0 c.if-n-t-2.true in
+    let r = slot-known a.s.now a.ws.now a.t a.n p.indexed p.t_value c.if-n-t-2.true in
     omega arith
 
 pub returns-then-n-t-2 : goal.returns-then-n-t-2
 returns-then-n-t-2 c =
     let a = c.args in
     let p = c.requires in
-    let r = slot-known a.s.now a.ws.now a.t a.n p.indexed p.1.0 c.if-n-t-2.true in
+    let r = slot-known a.s.now a.ws.now a.t a.n p.indexed p.t_value c.if-n-t-2.true in
     c.mask_at.ensures ∙ ap (λ (n : ℕ). (cell_at a.ws.now n).mask) (c.slot_at.ensures ∙ r.at)
-    ∙ sym (slot-private a.s.now a.ws.now a.n (omega (arith, c.if-n-t.false, shared-are a.s.now a.t p.1.0)) r.there)
+    ∙ sym (slot-private a.s.now a.ws.now a.n (omega (arith, c.if-n-t.false, shared-are a.s.now a.t p.t_value)) r.there)
 
 pub returns : goal.returns
 returns c =
@@ -43,4 +43,4 @@ returns c =
     let p = c.requires in
     sym (slot-past a.s.now a.ws.now a.n
     (omega (arith, c.if-n-t.false, shared-are a.s.now a.t p.t_value))
-    (omega (arith, c.if-n-t-2.false, slots-are a.s.now a.t p.1.0)))
+    (omega (arith, c.if-n-t-2.false, slots-are a.s.now a.t p.t_value)))

@@ -9,7 +9,7 @@ use Rattle.slots.proofs.crossing.crosses.Goals as goal
 pub slot_placed-requires : goal.slot_placed-requires
 slot_placed-requires c =
     let p = c.requires in
-    record { indexed = p.0; t_value = p.1.0; slot_le_slots = omega (arith, p.1.1) }
+    record { indexed = p.indexed; t_value = p.t_value; slot_le_slots = omega (arith, p.first_le_end) }
 
 pub returns-then-t-r : goal.returns-then-t-r
 returns-then-t-r c =
