@@ -41,7 +41,7 @@ still u Stores h = absurd (none 6 (omega arith) (λ e. omega arith) h)
 pub give_writes-requires : goal.give_writes-requires
 give_writes-requires c =
     let a = c.args in
-    (c.requires.looking, (c.requires.t_value, slots-there a.s.now a.ws.now a.v c.requires.looking c.requires.v_value))
+    record { looking = c.requires.looking; t_value = c.requires.t_value; slots_value = slots-there a.s.now a.ws.now a.v c.requires.looking c.requires.v_value }
 
 pub give_arguments-requires : goal.give_arguments-requires
 give_arguments-requires c =

@@ -11,7 +11,7 @@ pub loop-c-init : goal.loop-c-init
 loop-c-init c = (omega arith, refl)
 
 pub chunk_at-requires : goal.chunk_at-requires
-chunk_at-requires c = (c.requires.indexed, omega (arith, chunks-are _ _ c.requires.t_value))
+chunk_at-requires c = record { indexed = c.requires.indexed; c_in_bounds = omega (arith, chunks-are _ _ c.requires.t_value) }
 
 pub fault-n-requires : goal.fault-n-requires
 fault-n-requires c = record { good = c.requires.indexed.good; t_value = c.requires.t_value; c_in_bounds = omega (arith, chunks-are _ _ c.requires.t_value); numbers_of = stands _ _ _ _ c.chunk_at.ensures }
