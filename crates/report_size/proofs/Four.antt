@@ -91,7 +91,7 @@ unfolding flow_in join_flow
 four-flows f so [] a h = h
 four-flows f so (n ∷ ns) a h =
     let w = all-get FourIn n unset-four a in
-    four-flows f _ ns a (joined-long so.bodies _ (h ∙ sym w) ∙ h)
+    four-flows f (join_flow so (get_or f.flows n no_flow)) ns a (joined-long so.bodies _ (h ∙ sym w) ∙ h)
 
 four-read : (m : Module) (f : Facts) (n : ℕ) (ns : List ℕ) → All FourIn f.flows → Four (read_slots m f n ns)
 unfolding read_slots private_cell
