@@ -5,7 +5,7 @@ use mathlib.Core.Bool.{Bool, true, false, cond}
 use mathlib.Core.Option.{Option, none, some}
 use mathlib.Core.List.{List, [], ◌∷◌}
 use lib.Dec.{eqb}
-use lib.ListN.{length}
+use lib.ListN.{length, get_or}
 use Rattle.masks.specs.declared.Mask.{Mask}
 use Rattle.widths.specs.declared.Width.{Width}
 use Rattle.extents.specs.declared.Extent.{Extent}

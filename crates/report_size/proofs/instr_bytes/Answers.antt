@@ -1,7 +1,7 @@
 -- `report_size::instr_bytes` meets its contract: no state, or a record with an inspection and a branch where there is one.
 use Prim.Native.Nat.{ℕ, ◌≤◌}
 use native.Mathlib.Omega.{arith}
-use mathlib.Core.Path.{sym, ap, ◌∙◌}
+use mathlib.Core.Path.{◌≡◌, sym, ap, ◌∙◌}
 use mathlib.Core.Bool.{Bool, cond}
 use borrow.Author.Tests.{not-true, not-false}
 use Rattle.report_size.proofs.Here.{row_here, low-here, stands_here, numbers-here, entry_here, asking-here, few-here, none_here, some-here}
@@ -79,7 +79,7 @@ overflow_add-result c =
     let f = c.requires.finished in
     let h = c.requires.here in
     let p : c.if-false_inspection.inspection ≤ 7 = elim c.if-false_inspection.branch [ then-false_inspection w ↦ omega (arith, w.inspection-is) | else-false_inspection w ↦ omega (arith, w.inspection-is) ] in
-    let q : c.if-known_branch.branch ≤ 8 = elim c.if-known_branch.branch [ then-known_branch w ↦ omega (arith, w.branch-is) | else-known_branch w ↦ omega (arith, w.branch-is) ] in
+    let q : c.if-known_branch.branch' ≤ 8 = elim c.if-known_branch.branch [ then-known_branch w ↦ omega (arith, w.branch'-is) | else-known_branch w ↦ omega (arith, w.branch'-is) ] in
     let z = few-here a.s.now a.ws.now a.t f a.c a.ch a.i h c.visit_at-v.result c.visit_at-v.ensures in
     omega (arith, c.count_guards.ensures.1, c.record_len.ensures)
 
@@ -89,7 +89,7 @@ overflow_add-result-2 c =
     let f = c.requires.finished in
     let h = c.requires.here in
     let p : c.if-false_inspection.inspection ≤ 7 = elim c.if-false_inspection.branch [ then-false_inspection w ↦ omega (arith, w.inspection-is) | else-false_inspection w ↦ omega (arith, w.inspection-is) ] in
-    let q : c.if-known_branch.branch ≤ 8 = elim c.if-known_branch.branch [ then-known_branch w ↦ omega (arith, w.branch-is) | else-known_branch w ↦ omega (arith, w.branch-is) ] in
+    let q : c.if-known_branch.branch' ≤ 8 = elim c.if-known_branch.branch [ then-known_branch w ↦ omega (arith, w.branch'-is) | else-known_branch w ↦ omega (arith, w.branch'-is) ] in
     let z = few-here a.s.now a.ws.now a.t f a.c a.ch a.i h c.visit_at-v.result c.visit_at-v.ensures in
     omega (arith, c.count_guards.ensures.1, c.record_len.ensures)
 
@@ -99,7 +99,7 @@ overflow_add-result-3 c =
     let f = c.requires.finished in
     let h = c.requires.here in
     let p : c.if-false_inspection.inspection ≤ 7 = elim c.if-false_inspection.branch [ then-false_inspection w ↦ omega (arith, w.inspection-is) | else-false_inspection w ↦ omega (arith, w.inspection-is) ] in
-    let q : c.if-known_branch.branch ≤ 8 = elim c.if-known_branch.branch [ then-known_branch w ↦ omega (arith, w.branch-is) | else-known_branch w ↦ omega (arith, w.branch-is) ] in
+    let q : c.if-known_branch.branch' ≤ 8 = elim c.if-known_branch.branch [ then-known_branch w ↦ omega (arith, w.branch'-is) | else-known_branch w ↦ omega (arith, w.branch'-is) ] in
     let z = few-here a.s.now a.ws.now a.t f a.c a.ch a.i h c.visit_at-v.result c.visit_at-v.ensures in
     omega (arith, c.count_guards.ensures.1, c.record_len.ensures)
 
@@ -109,7 +109,7 @@ returns c =
     let f = c.requires.finished in
     let h = c.requires.here in
     let p : c.if-false_inspection.inspection ≤ 7 = elim c.if-false_inspection.branch [ then-false_inspection w ↦ omega (arith, w.inspection-is) | else-false_inspection w ↦ omega (arith, w.inspection-is) ] in
-    let q : c.if-known_branch.branch ≤ 8 = elim c.if-known_branch.branch [ then-known_branch w ↦ omega (arith, w.branch-is) | else-known_branch w ↦ omega (arith, w.branch-is) ] in
+    let q : c.if-known_branch.branch' ≤ 8 = elim c.if-known_branch.branch [ then-known_branch w ↦ omega (arith, w.branch'-is) | else-known_branch w ↦ omega (arith, w.branch'-is) ] in
     let z = few-here a.s.now a.ws.now a.t f a.c a.ch a.i h c.visit_at-v.result c.visit_at-v.ensures in
     let i0 : c.if-false_inspection.inspection ≡ cond {A = ℕ} c.false_inspection.result 7 0 =
         elim c.if-false_inspection.branch [
@@ -117,10 +117,10 @@ returns c =
         | else-false_inspection w ↦ w.inspection-is ∙ ap (λ (t : Bool). cond {A = ℕ} t 7 0) (sym w.if-false_inspection.false)
         ] in
     let i = i0 ∙ ap (λ (t : Bool). cond {A = ℕ} t 7 0) c.false_inspection.ensures in
-    let j0 : c.if-known_branch.branch ≡ cond {A = ℕ} c.known_branch.result 8 0 =
+    let j0 : c.if-known_branch.branch' ≡ cond {A = ℕ} c.known_branch.result 8 0 =
         elim c.if-known_branch.branch [
-          then-known_branch w ↦ w.branch-is ∙ ap (λ (t : Bool). cond {A = ℕ} t 8 0) (sym w.if-known_branch.true)
-        | else-known_branch w ↦ w.branch-is ∙ ap (λ (t : Bool). cond {A = ℕ} t 8 0) (sym w.if-known_branch.false)
+          then-known_branch w ↦ w.branch'-is ∙ ap (λ (t : Bool). cond {A = ℕ} t 8 0) (sym w.if-known_branch.true)
+        | else-known_branch w ↦ w.branch'-is ∙ ap (λ (t : Bool). cond {A = ℕ} t 8 0) (sym w.if-known_branch.false)
         ] in
     let j = j0 ∙ ap (λ (t : Bool). cond {A = ℕ} t 8 0) c.known_branch.ensures in
     let e = some-added a.s.now a.ws.now a.t f a.c a.ch a.i h c.row_at-row.result (c.row_at-row.ensures ∙ (row_here a.s.now a.ws.now a.t f a.c a.ch a.i h).at) c.visit_at-v.result c.visit_at-v.ensures in
