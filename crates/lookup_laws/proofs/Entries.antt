@@ -55,7 +55,7 @@ module _ (s : List ℕ) where
       let m = length-append (f x) (each f xs) in
       let e : p + (3 + length b) + length (each f xs) ≡ p + length (f x ++ each f xs) = omega arith in
       past tag b ne (has_same (is x).same (has_left (f x) (each f xs) h)) (omega arith)
-      ∙ past_all tag f is ne xs (has_right (3 + length b) (f x) (each f xs) n h) (omega arith)
+      ∙ past_all {p = p + (3 + length (is x).contents)} tag f is ne xs (has_right (3 + length b) (f x) (each f xs) n h) (omega arith)
       ∙ ap (entries_from s) e
 
   -- ---- a record gives its entry
@@ -91,7 +91,7 @@ module _ (s : List ℕ) where
       let m = length-append (record_bytes x) (each record_bytes xs) in
       let z : p + length (record_bytes x) + length (each record_bytes xs) ≡ p + length (record_bytes x ++ each record_bytes xs) = omega arith in
       let hx : Has s p (record_bytes x) = has_left (record_bytes x) (each record_bytes xs) h in
-      let rest = listed xs (has_right (length (record_bytes x)) (record_bytes x) (each record_bytes xs) refl h) (omega arith) (ap (entries_from s) z ∙ e) in
+      let rest = listed {p = p + length (record_bytes x)} xs (has_right (length (record_bytes x)) (record_bytes x) (each record_bytes xs) refl h) (omega arith) (ap (entries_from s) z ∙ e) in
       entries-record s p (omega (arith, record-long x)) (omega (arith, next x hx)) (is-record x hx) ∙ rw (entry x hx, next x hx, rest)
 
 -- ---- the groups of a report

@@ -37,6 +37,7 @@ pub named-listed : (x : Record) (xs : List Record) → Rising xs → Memᴰ x xs
 unfolding named
 named-listed x (y ∷ ys) h (Memᴰ.head e) = rw (← e, own x)
 named-listed x (y ∷ ys) h (Memᴰ.tail m) = rw (earlier x y (h.0 x m)) (named-listed x ys h.1 m)
+named-listed x [] h x3 = elim x3 [ ]
 
 pub named_none : (c i : ℕ) (xs : List Record) → ((x : Record) → Memᴰ x xs → x.chunk ≡ c → x.instruction ≡ i → ⊥) → named c i xs ≡ none
 unfolding named is_of
