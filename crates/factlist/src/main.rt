@@ -2,6 +2,8 @@
 // examples/factlist.
 #![tactic(auto)]
 
-fn main() {
-    factlisting::run();
+use std::io;
+
+fn main(rt: HostRuntime) -> io::Result<()> {
+    factlisting::run(&rt)
 }
