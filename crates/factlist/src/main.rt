@@ -1,7 +1,9 @@
-// Lists the facts of the description on standard input. It is run on document 01's example; .ci/programs runs it on more inputs, those in
+// Lists the facts of the description on standard input. It is run on examples/worked.bin; .ci/programs runs it on more inputs, those in
 // examples/factlist.
 #![tactic(auto)]
 
-fn main() {
-    factlisting::run();
+use std::io;
+
+fn main(rt: HostRuntime) -> io::Result<()> {
+    factlisting::run(&rt)
 }

@@ -7,6 +7,8 @@ ghost use Rattle.factlisting.specs.Factlist.{text_room, Listed};
 use answers::{Answer, nowhere};
 use facts::check;
 use listing::list;
+use std::io;
+use std::io::Read;
 
 // Room for the report and the words, of zeros.
 fn report_room() -> [u8; 16384]
@@ -35,11 +37,11 @@ pub fn list_facts(description: &[u8], text: &mut [u8]) -> usize
     list(answer, &report, text)
 }
 
-// Reads a description from standard input and writes its listing, for which the text has room.
-pub fn run() {
-    let mut description = [0u8; 16385];
+// Reads a description from standard input, no further than to its byte 16,385, and writes its listing, for which the text has room.
+pub fn run(rt: &(impl Input + Print + AllocGlobal)) -> io::Result<()> {
+    let mut description = Vec::new(rt.alloc());
     let mut text = [0u8; 65536];
-    let n = io::read_full(0, &mut description);
-    let k = list_facts(&description[..n], &mut text);
-    io::write_all(1, &text[..k]);
+    rt.reader().take(16385).read_to_end(&mut description)?;
+    let k = list_facts(&description, &mut text);
+    rt.write_all(&text[..k])
 }

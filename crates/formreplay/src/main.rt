@@ -7,7 +7,9 @@ ghost use Rattle.std.specs.Prelude.{◌≡◌, length};
 use definition::Form;
 use form::check_form;
 use le::{u8_at, u16_at, u32_at};
-use tally::{Tally, begun, counted, ended, note, say};
+use std::io;
+use std::io::Read;
+use tally::{Tally, begun, counted, ended, note, read_full, say};
 
 // How far the replay is: the bytes of the base, and the entries so far.
 #[derive(Clone, Copy)]
@@ -76,42 +78,57 @@ fn made(head: &[u8], base: &[u8], size: usize, part: &[u8], work: &mut [u8]) -> 
 }
 
 // One entry more, its head already read: the bytes put in, the answer.
-fn entry(head: &[u8], base: &mut [u8], part: &mut [u8], work: &mut [u8], r: Replay) -> Replay {
+fn entry(
+    rt: &impl Print,
+    input: &mut impl Read,
+    head: &[u8],
+    base: &mut [u8],
+    part: &mut [u8],
+    work: &mut [u8],
+    r: Replay,
+) -> io::Result<Replay> {
     let mut stored = [0u8; 13];
     let n = u16_at(head, 9) as usize;
     let t = r.tally;
     if part.len() < n {
-        return Replay {
+        return Ok(Replay {
             base: r.base,
             tally: ended(t),
-        };
+        });
     }
-    io::read_full(0, &mut part[..n]);
-    io::read_full(0, &mut stored);
+    read_full(input, &mut part[..n])?;
+    read_full(input, &mut stored)?;
     let size = made(head, base, r.base, part, work);
     let fine = looked(work, size, &stored);
-    note(t, fine);
+    note(rt, t, fine)?;
     let tally = counted(t, fine);
     if u8_at(head, 0) == 1 {
         let m = append(base, 0, work, 0, size);
-        return Replay { base: m, tally };
+        return Ok(Replay { base: m, tally });
     }
-    Replay {
+    Ok(Replay {
         base: r.base,
         tally,
-    }
+    })
 }
 
-fn turn(base: &mut [u8], part: &mut [u8], work: &mut [u8], r: Replay) -> Replay {
+fn turn(
+    rt: &impl Print,
+    input: &mut impl Read,
+    base: &mut [u8],
+    part: &mut [u8],
+    work: &mut [u8],
+    r: Replay,
+) -> io::Result<Replay> {
     let mut head = [0u8; 15];
-    if io::read_full(0, &mut head) < 15 {
+    if read_full(input, &mut head)? < 15 {
         let t = r.tally;
-        return Replay {
+        return Ok(Replay {
             base: r.base,
             tally: ended(t),
-        };
+        });
     }
-    entry(&head, base, part, work, r)
+    entry(rt, input, &head, base, part, work, r)
 }
 
 // Room for the longest description of the list.
@@ -121,7 +138,8 @@ fn space() -> [u8; 131072]
     [0; 131072]
 }
 
-fn main() {
+fn main(rt: HostRuntime) -> io::Result<()> {
+    let mut input = rt.reader();
     let mut base = [0u8; 16384];
     let mut part = [0u8; 16384];
     let mut work = space();
@@ -131,8 +149,8 @@ fn main() {
         tally: begun(),
     };
     while 0 < left {
-        r = turn(&mut base, &mut part, &mut work, r);
+        r = turn(&rt, &mut input, &mut base, &mut part, &mut work, r)?;
         left = if r.tally.more { left - 1 } else { 0 };
     }
-    say(r.tally);
+    say(&rt, r.tally)
 }

@@ -3,36 +3,35 @@
 #![tactic(auto)]
 
 use masks::{Mask, OperandKind};
+use std::io;
 use std::num::wrapping_add_u32;
 
-fn line(bits: u16, class: &[u8]) {
-    io::print_decimal(1, bits as u64);
-    io::write_all(1, class);
+fn line(rt: &impl Print, bits: u16, class: &str) -> io::Result<()> {
+    println!(rt; "{bits} {class}")
 }
 
 // One mask more. The answer is how many were unknown so far.
-fn list(bits: u16, unknown: u32) -> u32 {
+fn list(rt: &impl Print, bits: u16, unknown: u32) -> io::Result<u32> {
     let mask = Mask { bits };
     match mask.operand_kind() {
-        OperandKind::Int => line(bits, b" Int\n"),
-        OperandKind::Fixed => line(bits, b" Fixed\n"),
-        OperandKind::Float => line(bits, b" Float\n"),
-        OperandKind::Unknown => return wrapping_add_u32(unknown, 1),
+        OperandKind::Int => line(rt, bits, "Int")?,
+        OperandKind::Fixed => line(rt, bits, "Fixed")?,
+        OperandKind::Float => line(rt, bits, "Float")?,
+        OperandKind::Unknown => return Ok(wrapping_add_u32(unknown, 1)),
     }
-    unknown
+    Ok(unknown)
 }
 
-fn say(unknown: u32) {
-    io::print_decimal(1, unknown as u64);
-    io::write_all(1, b" masks are Unknown\n");
+fn say(rt: &impl Print, unknown: u32) -> io::Result<()> {
+    println!(rt; "{unknown} masks are Unknown")
 }
 
-fn main() {
+fn main(rt: HostRuntime) -> io::Result<()> {
     let mut unknown: u32 = 0;
     let mut left: u32 = 65536;
     while 0 < left {
-        unknown = list((65536 - left) as u16, unknown);
+        unknown = list(&rt, (65536 - left) as u16, unknown)?;
         left -= 1;
     }
-    say(unknown);
+    say(&rt, unknown)
 }

@@ -6,8 +6,10 @@
 use answers::Answer;
 use facts::check;
 use le::{u8_at, u16_at, u32_at};
+use std::io;
+use std::io::Read;
 use std::num::{wrapping_add_u8, wrapping_add_u32};
-use tally::{Tally, begun, counted, ended, note, say};
+use tally::{Tally, begun, counted, ended, note, read_full, say};
 
 // Marks that show each word and byte that was written: words are odd, bytes count up.
 fn mark_words(ws: &mut [u32]) {
@@ -121,40 +123,54 @@ fn tried(head: &[u8], description: &[u8], ws: &mut [u32], buf: &mut [u8], report
 }
 
 // Reads n bytes; whether they were there, and room for them.
-fn read_part(to: &mut [u8], n: usize) -> bool {
+fn read_part(input: &mut impl Read, to: &mut [u8], n: usize) -> io::Result<bool> {
     if to.len() < n {
-        return false;
+        return Ok(false);
     }
-    io::read_full(0, &mut to[..n]) == n
+    Ok(read_full(input, &mut to[..n])? == n)
 }
 
 // One entry more, its head already read: the description, the report, the call.
-fn entry(head: &[u8], ws: &mut [u32], buf: &mut [u8], t: Tally) -> Tally {
+fn entry(
+    rt: &impl Print,
+    input: &mut impl Read,
+    head: &[u8],
+    ws: &mut [u32],
+    buf: &mut [u8],
+    t: Tally,
+) -> io::Result<Tally> {
     let mut description = [0u8; 4096];
     let mut report = [0u8; 8192];
-    let whole = read_part(&mut description, u32_at(head, 0) as usize);
-    let told = read_part(&mut report, u32_at(head, 25) as usize);
+    let whole = read_part(input, &mut description, u32_at(head, 0) as usize)?;
+    let told = read_part(input, &mut report, u32_at(head, 25) as usize)?;
     let fine = tried(head, &description, ws, buf, &report) & whole & told;
-    note(t, fine);
-    counted(t, fine)
+    note(rt, t, fine)?;
+    Ok(counted(t, fine))
 }
 
-fn turn(ws: &mut [u32], buf: &mut [u8], t: Tally) -> Tally {
+fn turn(
+    rt: &impl Print,
+    input: &mut impl Read,
+    ws: &mut [u32],
+    buf: &mut [u8],
+    t: Tally,
+) -> io::Result<Tally> {
     let mut head = [0u8; 29];
-    if io::read_full(0, &mut head) < 29 {
-        return ended(t);
+    if read_full(input, &mut head)? < 29 {
+        return Ok(ended(t));
     }
-    entry(&head, ws, buf, t)
+    entry(rt, input, &head, ws, buf, t)
 }
 
-fn main() {
+fn main(rt: HostRuntime) -> io::Result<()> {
+    let mut input = rt.reader();
     let mut ws = [0u32; 16384];
     let mut buf = [0u8; 8192];
     let mut left: u32 = 1000000;
     let mut t = begun();
     while 0 < left {
-        t = turn(&mut ws, &mut buf, t);
+        t = turn(&rt, &mut input, &mut ws, &mut buf, t)?;
         left = if t.more { left - 1 } else { 0 };
     }
-    say(t);
+    say(&rt, t)
 }

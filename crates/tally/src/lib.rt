@@ -1,9 +1,11 @@
-// How a replay counts its entries, and what it says of them.
+// How a replay reads its entries, counts them, and what it says of them.
 #![tactic(auto)]
 
-ghost use Rattle.std.specs.Prelude.{◌≡◌};
+ghost use Rattle.std.specs.Prelude.{◌≡◌, ◌≤◌, length, IfOk};
 ghost use Rattle.tally.specs.Tally.{nothing, counted_if, ended_at};
 
+use std::io;
+use std::io::Read;
 use std::num::wrapping_add_u32;
 
 // The entries that agreed and those that didn't, and whether more may follow.
@@ -54,19 +56,30 @@ pub fn ended(t: Tally) -> Tally
 }
 
 // Writes how many agreed and how many didn't.
-pub fn say(t: Tally) {
-    io::print_decimal(1, t.agreed as u64);
-    io::write_all(1, b" agreed, ");
-    io::print_decimal(1, t.differ as u64);
-    io::write_all(1, b" differ\n");
+pub fn say(rt: &impl Print, t: Tally) -> io::Result<()> {
+    println!(rt; "{} agreed, {} differ", t.agreed, t.differ)
 }
 
 // Writes which entry differs, counted from 1, where the next one does.
-pub fn note(t: Tally, fine: bool) {
+pub fn note(rt: &impl Print, t: Tally, fine: bool) -> io::Result<()> {
     if fine {
-        return;
+        return Ok(());
     }
-    io::write_all(1, b"differs: entry ");
-    io::print_decimal(1, (wrapping_add_u32(t.agreed, t.differ) as u64) + 1);
-    io::write_all(1, b"\n");
+    let entry = (wrapping_add_u32(t.agreed, t.differ) as u64) + 1;
+    println!(rt; "differs: entry {entry}")
+}
+
+// Reads until the bytes are full or the input ends, and answers how many were read.
+pub fn read_full(input: &mut impl Read, to: &mut [u8]) -> io::Result<usize>
+    ensures { IfOk result (λ n. n ≤ length to.new) }
+{
+    let mut done = 0;
+    while done < to.len() {
+        let n = input.read(&mut to[done..])?;
+        if n == 0 {
+            break;
+        }
+        done += n;
+    }
+    Ok(done)
 }

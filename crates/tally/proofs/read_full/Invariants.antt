@@ -1,0 +1,9 @@
+-- `tally::read_full` meets its contract.
+use Rattle.std.proofs.Common.{length, ◌-◌, ◌≤◌}
+use Rattle.tally.proofs.read_full.Given as goal
+
+abbrev pub invariant-loop-done : goal.invariant-loop-done
+invariant-loop-done g l = l.done ≤ length l.to
+
+abbrev pub decreases-loop-done : goal.decreases-loop-done
+decreases-loop-done g l = length l.initial.to - l.done
