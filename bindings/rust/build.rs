@@ -1,15 +1,15 @@
-//! Says where libfacts_c.a stands: in the folder FACTS_LIB, or where `rt staticlib facts_c` leaves it.
+//! Says where libfacts_c.a stands: in the folder FACTS_LIB, or where `rt lib` in crates/facts_c leaves it.
 
 use std::path::{Path, PathBuf};
 
 const ARCHIVE: &str = "libfacts_c.a";
 
-/// The folder FACTS_LIB, or target/staticlib at the top of the repository.
+/// The folder FACTS_LIB, or crates/facts_c/out in the repository.
 fn folder() -> PathBuf {
     println!("cargo::rerun-if-env-changed=FACTS_LIB");
     match std::env::var_os("FACTS_LIB") {
         Some(told) => from_the_caller(told.into()),
-        None => top().join("target/staticlib"),
+        None => top().join("crates/facts_c/out"),
     }
 }
 
@@ -36,8 +36,8 @@ fn main() {
         println!("cargo::rustc-link-search=native={}", folder.display());
     } else {
         println!(
-            "cargo::error=no {ARCHIVE} in {}: run `rt staticlib facts_c` at the top of the repository, or set \
-             FACTS_LIB to the folder that has it",
+            "cargo::error=no {ARCHIVE} in {}: run `rt lib` in crates/facts_c of the repository, or set FACTS_LIB \
+             to the folder that has it",
             folder.display()
         );
     }

@@ -170,8 +170,11 @@ fn compare_turns(run: u64, numbers: std::ops::Range<u64>) {
             }
             if let Some(difference) = pausing::compare(run, number, &mut other, &mut counts) {
                 let _held = output.lock();
-                differences.fetch_add(1, Ordering::Relaxed);
-                println!("---- {difference}");
+                // Another thread may have found the last that is counted.
+                if differences.load(Ordering::Relaxed) < MOST {
+                    differences.fetch_add(1, Ordering::Relaxed);
+                    println!("---- {difference}");
+                }
             }
         }
         counts
