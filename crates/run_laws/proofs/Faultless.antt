@@ -29,6 +29,8 @@ each_at : {C D : Type 0} (P : C → D → Type 0) (c : C) (d : D) (cs : List C) 
 each_at P c d [] [] n none_left h = absurd (omega arith)
 each_at P c d (x ∷ cs) (y ∷ ds) zero (one_more p e) h = p
 each_at P c d (x ∷ cs) (y ∷ ds) (suc n) (one_more p e) h = each_at P c d cs ds n e (omega arith)
+each_at {C = C} {D = D} P c d [] (y ∷ ds) n x4 h = elim x4 [ ]
+each_at {C = C} {D = D} P c d (x ∷ cs) [] n x5 h = elim x5 [ ]
 
 module _ (s ws : List ℕ) where
   -- the states of a reachable chunk

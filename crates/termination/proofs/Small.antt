@@ -163,7 +163,7 @@ module _ (most : ℕ) where
 
     from-small : (p : Packed) (cs : List Cell) (float handle : ℕ) → SmallPacked p → SmallPacked (packed_from p cs float handle)
     from-small p [] float handle h = h
-    from-small p (c ∷ cs) float handle h = from-small {p = and_then p (packed_one c float handle)} _ cs float handle (then-small p (packed_one c float handle))
+    from-small p (c ∷ cs) float handle h = from-small (and_then p (packed_one c float handle)) cs float handle (then-small p (packed_one c float handle))
 
     constructed-small : (p : Packed) (j size : ℕ) → SmallPacked p → size ≤ most → SmallExtent (constructed p j size)
     constructed-small Nothing j size p l = tt
