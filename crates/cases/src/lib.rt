@@ -1,3 +1,2 @@
 // No code. The definition, evaluated on small descriptions: see specs/.
 #![tactic(auto)]
-

@@ -112,16 +112,16 @@ returns c =
     let q : c.if-known_branch.branch' ≤ 8 = elim c.if-known_branch.branch [ then-known_branch w ↦ omega (arith, w.branch'-is) | else-known_branch w ↦ omega (arith, w.branch'-is) ] in
     let z = few-here a.s.now a.ws.now a.t f a.c a.ch a.i h c.visit_at-v.result c.visit_at-v.ensures in
     let i0 : c.if-false_inspection.inspection ≡ cond {A = ℕ} c.false_inspection.result 7 0 =
-        elim c.if-false_inspection.branch [
-          then-false_inspection w ↦ w.inspection-is ∙ ap (λ (t : Bool). cond {A = ℕ} t 7 0) (sym w.if-false_inspection.true)
-        | else-false_inspection w ↦ w.inspection-is ∙ ap (λ (t : Bool). cond {A = ℕ} t 7 0) (sym w.if-false_inspection.false)
-        ] in
+    elim c.if-false_inspection.branch [
+      | then-false_inspection w ↦ w.inspection-is ∙ ap (λ (t : Bool). cond {A = ℕ} t 7 0) (sym w.if-false_inspection.true)
+      | else-false_inspection w ↦ w.inspection-is ∙ ap (λ (t : Bool). cond {A = ℕ} t 7 0) (sym w.if-false_inspection.false)
+    ] in
     let i = i0 ∙ ap (λ (t : Bool). cond {A = ℕ} t 7 0) c.false_inspection.ensures in
     let j0 : c.if-known_branch.branch' ≡ cond {A = ℕ} c.known_branch.result 8 0 =
-        elim c.if-known_branch.branch [
-          then-known_branch w ↦ w.branch'-is ∙ ap (λ (t : Bool). cond {A = ℕ} t 8 0) (sym w.if-known_branch.true)
-        | else-known_branch w ↦ w.branch'-is ∙ ap (λ (t : Bool). cond {A = ℕ} t 8 0) (sym w.if-known_branch.false)
-        ] in
+    elim c.if-known_branch.branch [
+      | then-known_branch w ↦ w.branch'-is ∙ ap (λ (t : Bool). cond {A = ℕ} t 8 0) (sym w.if-known_branch.true)
+      | else-known_branch w ↦ w.branch'-is ∙ ap (λ (t : Bool). cond {A = ℕ} t 8 0) (sym w.if-known_branch.false)
+    ] in
     let j = j0 ∙ ap (λ (t : Bool). cond {A = ℕ} t 8 0) c.known_branch.ensures in
     let e = some-added a.s.now a.ws.now a.t f a.c a.ch a.i h c.row_at-row.result (c.row_at-row.ensures ∙ (row_here a.s.now a.ws.now a.t f a.c a.ch a.i h).at) c.visit_at-v.result c.visit_at-v.ensures in
     (omega (arith, e, i, j, c.record_len.ensures, c.count_guards.ensures.0), omega (arith, c.count_guards.ensures.1, c.record_len.ensures))

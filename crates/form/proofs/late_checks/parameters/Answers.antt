@@ -24,14 +24,13 @@ loop-p-preserved-then-tag_at-chunk c =
     )
 
 pub loop-p-preserved : goal.loop-p-preserved
-loop-p-preserved c =
-    (
-      c.loop-p.invariant.0,
-      c.loop-p.invariant.1,
-      refl,
-      rw c.next_at-next.ensures.0
-          (fill-skip _ c.loop-p.params _ _ _ _ _ c.loop-p-test.true c.tag_at.ensures c.if-tag_at-chunk.false c.loop-p.invariant.0 c.loop-p.invariant.3),
-    )
+loop-p-preserved c = (
+  c.loop-p.invariant.0,
+  c.loop-p.invariant.1,
+  refl,
+  rw c.next_at-next.ensures.0
+      (fill-skip _ c.loop-p.params _ _ _ _ _ c.loop-p-test.true c.tag_at.ensures c.if-tag_at-chunk.false c.loop-p.invariant.0 c.loop-p.invariant.3),
+)
 
 pub returns : goal.returns
 returns c = fill_end _ c.loop-p.params _ _ _ _ c.loop-p-test.false c.loop-p.invariant.3

@@ -13,8 +13,7 @@ use Rattle.report_size.proofs.counting.count_records.Goals as goal
 
 pub loop-c-init : goal.loop-c-init
 loop-c-init c =
-    let a = c.args in
-    (
+    let a = c.args in (
       omega arith,
       omega (arith, chunks-are a.s.now a.t c.requires.t_value, c.requires.indexed.good.chunks_most),
       sym (ap length (span_none (marks_in a.s.now a.ws.now) 0)),

@@ -13,9 +13,9 @@ pub returns : goal.returns
 returns c =
     let a = c.args in
     let k : c.if-op-eq-IS_ENUM.inspected ≡ cond (eqb a.op op_is_enum) ENUM STRUCT =
-        elim c.if-op-eq-IS_ENUM.branch [
-          then-op-eq-IS_ENUM w ↦ w.inspected-is ∙ sym (ap (λ (b : Bool). cond b ENUM STRUCT) (eq-eqb a.op op_is_enum w.if-op-eq-IS_ENUM.true))
-        | else-op-eq-IS_ENUM w ↦ w.inspected-is ∙ sym (ap (λ (b : Bool). cond b ENUM STRUCT) (ne_eqb a.op op_is_enum w.if-op-eq-IS_ENUM.false))
-        ] in
+    elim c.if-op-eq-IS_ENUM.branch [
+      | then-op-eq-IS_ENUM w ↦ w.inspected-is ∙ sym (ap (λ (b : Bool). cond b ENUM STRUCT) (eq-eqb a.op op_is_enum w.if-op-eq-IS_ENUM.true))
+      | else-op-eq-IS_ENUM w ↦ w.inspected-is ∙ sym (ap (λ (b : Bool). cond b ENUM STRUCT) (ne_eqb a.op op_is_enum w.if-op-eq-IS_ENUM.false))
+    ] in
     false-by a.ws.now a.row a.op c.is_recorded.result c.top_mask-m.result c.is_recorded.ensures
     c.top_mask-m.ensures c.if-op-eq-IS_ENUM.inspected c.has.result k c.has.ensures

@@ -16,12 +16,11 @@ set_row-requires c =
     omega (arith, c.row_at.ensures, c.loop-i.invariant.1.long, c.requires.room c.loop-i.i (omega arith))
 
 pub loop-i-preserved : goal.loop-i-preserved
-loop-i-preserved c =
-    (
-      omega arith,
-      rw (c.set_row.ensures, c.row_at.ensures)
-          (cleared_more c.args.ch c.loop-i.i c.args.ws.now c.loop-i.ws (c.requires.room c.loop-i.i (omega arith)) c.loop-i.invariant.1),
-    )
+loop-i-preserved c = (
+  omega arith,
+  rw (c.set_row.ensures, c.row_at.ensures)
+      (cleared_more c.args.ch c.loop-i.i c.args.ws.now c.loop-i.ws (c.requires.room c.loop-i.i (omega arith)) c.loop-i.invariant.1),
+)
 
 pub shape_of-ws : goal.shape_of-ws
 shape_of-ws c = c.loop-i.invariant.1.long

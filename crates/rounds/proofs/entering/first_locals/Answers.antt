@@ -13,12 +13,11 @@ first_local-requires c =
     record { locals_there = locals-there c.args.ch c.loop-i.i c.args.ws.now c.loop-i.ws c.loop-i.invariant.1 c.requires; i_lt_locals = omega arith }
 
 pub loop-i-preserved : goal.loop-i-preserved
-loop-i-preserved c =
-    (
-      omega arith,
-      filled_more c.args.ch c.loop-i.i c.args.ws.now c.loop-i.ws c.first_local.new.ws c.requires c.loop-i.invariant.1
-          c.first_local.ensures (omega arith),
-    )
+loop-i-preserved c = (
+  omega arith,
+  filled_more c.args.ch c.loop-i.i c.args.ws.now c.loop-i.ws c.first_local.new.ws c.requires c.loop-i.invariant.1
+      c.first_local.ensures (omega arith),
+)
 
 pub shape_of-ws : goal.shape_of-ws
 shape_of-ws c = c.loop-i.invariant.1.out.length

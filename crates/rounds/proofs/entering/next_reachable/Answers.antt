@@ -19,13 +19,12 @@ returns-then-ch c =
     c.chunk_at-ch.result c.chunk_at-ch.ensures (omega (arith, ltb-true)) c.if-ch.true
 
 pub loop-c-preserved : goal.loop-c-preserved
-loop-c-preserved c =
-    (
-      omega arith,
-      omega arith,
-      skip-one c.args.s.now c.args.ws.now c.args.t c.requires.t_value c.args.from c.loop-c.c c.loop-c.invariant.0 c.loop-c.invariant.2
-          c.chunk_at-ch.result c.chunk_at-ch.ensures c.if-ch.false,
-    )
+loop-c-preserved c = (
+  omega arith,
+  omega arith,
+  skip-one c.args.s.now c.args.ws.now c.args.t c.requires.t_value c.args.from c.loop-c.c c.loop-c.invariant.0 c.loop-c.invariant.2
+      c.chunk_at-ch.result c.chunk_at-ch.ensures c.if-ch.false,
+)
 
 pub returns : goal.returns
 returns c =
