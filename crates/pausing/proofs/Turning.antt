@@ -1,4 +1,5 @@
 -- What is answered of a stage is the turn of the run.
+use Rattle.answers.specs.Answers.{indexed_numbers}
 use Prim.Native.Nat.{ℕ}
 use native.Mathlib.Omega.{arith}
 use mathlib.Core.Path.{◌≡◌, refl, sym, ap, ◌∙◌}

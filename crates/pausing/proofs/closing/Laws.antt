@@ -34,7 +34,7 @@ short-alone (Accepted long steps) h = (h, omega arith)
 short-alone (Refused r) h = (omega arith, omega arith)
 
 short-beside : (a : IndexedAnswer) → (get_or (indexed_numbers a) 4 0 < 4294967296) × (get_or (indexed_numbers a) 5 0 < 4294967296) → ShortTurn (beside a)
-unfolding beside indexed_numbers turn_numbers indexed_numbers
+unfolding beside indexed_numbers turn_numbers
 short-beside (AcceptedWith long steps n) h = h
 short-beside (RefusedWith r) h = (omega arith, omega arith)
 

@@ -5,7 +5,8 @@ use Rattle.pausing.proofs.reaching.begin_afresh.Goals as goal
 
 pub fill-filled-requires : goal.fill-filled-requires
 fill-filled-requires c =
-    fill-ready _ _ _ c.requires.good c.requires.s_in_bounds c.requires.t_value
+    let r = fill-ready _ _ _ c.requires.good c.requires.s_in_bounds c.requires.t_value in
+    record { good = r.0; queue_in_bounds = r.1 }
 
 pub begin-requires : goal.begin-requires
 begin-requires c =

@@ -9,7 +9,8 @@ returns-then-r-eq-MOST_STEPS c =
 
 pub put_run-requires : goal.put_run-requires
 put_run-requires c =
-    run_fits _ _ _ c.requires.between
+    let r = run_fits _ _ _ c.requires.between in
+    record { head_words_in_bounds = r.0; chunk_lt_word_range = r.1 }
 
 pub put_mark-requires : goal.put_mark-requires
 put_mark-requires c =
