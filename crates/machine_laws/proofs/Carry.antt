@@ -11,6 +11,7 @@ use Rattle.definition.specs.Res.{Res, ok, bad}
 use Rattle.definition.specs.Machine.{Joined, Effect, Work, Seen, Machine, Final, Where, due, done, stop, Ran, Analysis, accepted, push, put_joined, put_at, put_in, put, puts, visit_at, visit, adds, enter, finish, end_round, ending, onward, settle, settled, on_seen, takes, next, on_next, run, begun, check}
 use Rattle.machine_laws.proofs.Bind.{bad≢ok, ok-inj, bind-use}
 use Rattle.machine_laws.proofs.All.{All, nil, cons, all_append, all_set, all-get, Opt}
+pub use Rattle.machine_laws.proofs.Asked.{Keeps}
 
 module _ {S : Type 0} (P : S → Type 0) where
   abbrev pub StatesOk : List (Option S) → Type 0
@@ -44,18 +45,8 @@ module _ {S : Type 0} (P : S → Type 0) where
     puts-ok w v (o ∷ os) e h (cons p ps) =
         bind-use (put join cap w o) _ e λ u a e'. puts-ok u v os e' (put_in-ok w u o.0 o.1 (ltb o.0 (length w.states)) a h p) ps
 
--- what is kept: of states, of facts between chunks, of a round's facts, of gifts; C is what holds of the chunks. Only reachable ones are visited
 module _ {C F R S G : Type 0} (α : Analysis C F R S G) where
-  pub record Keeps (P : S → Type 0) (Q : R → Type 0) (L : F → Type 0) (T : G → Type 0) (K : C → Type 0) : Type 0 where
-    pub joined : (s x : S) (j : Joined S) → α.join s x ≡ ok j → P s → P x → P j.value
-    pub starts : (c : C) (r : R) → K c → Q r → All (Opt P) (α.start c r)
-    pub opened : (r : R) → Q r → L (α.opened r)
-    pub viewed : (f : F) → L f → Q (α.view f)
-    pub closes : (f : F) → L f → Q (α.closed f)
-    pub absorbs : (f : F) (g : G) → L f → T g → L (α.absorb f g)
-    pub left : (v : Bool) (c : C) (r : R) (i : ℕ) (s : S) (e : Effect S G) → α.leaves v c r i s ≡ ok e → α.reachable c ≡ true → K c → Q r → P s → All (λ o. P o.1) e.ways × T e.gives
-
-  module _ (P : S → Type 0) (Q : R → Type 0) (L : F → Type 0) (T : G → Type 0) (K : C → Type 0) (keeps : Keeps P Q L T K) (all : All K α.chunks) where
+  module _ (P : S → Type 0) (Q : R → Type 0) (L : F → Type 0) (T : G → Type 0) (K : C → Type 0) (keeps : Keeps α P Q L T K) (all : All K α.chunks) where
     adds-ok : (v : Bool) (f : F) (g : G) → L f → T g → L (adds α v f g)
     unfolding adds
     adds-ok true f g h t = h

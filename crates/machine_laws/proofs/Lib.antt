@@ -1,4 +1,5 @@
 pub mod Bind
+pub mod Asked
 pub mod Moves
 pub mod Steps
 pub mod Settle

@@ -13,21 +13,7 @@ use lib.Dec.{ltb, ltb→lt, lt→ltb}
 use Rattle.definition.specs.Res.{Res, ok}
 use Rattle.definition.specs.Machine.{Joined, Work, push, put_joined, put_at, put_in, put, puts}
 use Rattle.machine_laws.proofs.Bind.{bad≢ok, ok-inj, none≢some, some_inj, bind-use}
-
-module _ {S : Type 0} (join : S → S → Res (Joined S)) where
-  -- joining `x` changes nothing
-  abbrev pub Takes : S → S → Type 0
-  Takes s x = join s x ≡ ok (record { value = s; changed = false })
-
-  -- what is asked of a join
-  pub record Laws : Type 0 where
-    pub self : (x : S) → Takes x x
-    pub same : (s x : S) (j : Joined S) → join s x ≡ ok j → j.changed ≡ false → Takes s x
-    pub takes : (s x : S) (j : Joined S) → join s x ≡ ok j → Takes j.value x
-    pub keeps : (s x y : S) (j : Joined S) → join s x ≡ ok j → Takes s y → Takes j.value y
-
-abbrev pub Recorded : {S : Type 0} → List (Option S) → ℕ → S → Type 0
-Recorded st i s = get_or st i none ≡ some s
+pub use Rattle.machine_laws.proofs.Asked.{Takes, Laws, Recorded, TakenIn}
 
 -- the recorded stays recorded, by what takes in all that it took in
 pub record Grown {S : Type 0} (join : S → S → Res (Joined S)) (st st' : List (Option S)) : Type 0 where
@@ -72,11 +58,7 @@ module _ {S : Type 0} (join : S → S → Res (Joined S)) where
       then j s (inr m) = inr (m.0, v j m.1)
       then j s (inl r) = elim (g.fresh j s r) [ inl q ↦ inl q | inr m ↦ inr (h.keeps j m.0, u j m.1) ]
 
-  -- the place of a way takes in what comes along it
-  abbrev pub TakenIn : List (Option S) → ℕ → S → Type 0
-  TakenIn st t x = t < length st → (s : S) × Recorded st t s × Takes join s x
-
-  pub taken-grown : {a b : List (Option S)} (t : ℕ) (x : S) → Grown join a b → TakenIn a t x → TakenIn b t x
+  pub taken-grown : {a b : List (Option S)} (t : ℕ) (x : S) → Grown join a b → TakenIn join a t x → TakenIn join b t x
   taken-grown t x g h l =
       let (s, r, k) = h (rw (← g.size) l) in
       let (s', r', f) = g.grows t s r in
@@ -84,14 +66,14 @@ module _ {S : Type 0} (join : S → S → Res (Joined S)) where
 
   -- all the ways of a visit
   abbrev pub AllIn : List (Option S) → List (ℕ × S) → Type 0
-  AllIn st os = (o : ℕ × S) → Memᴰ o os → TakenIn st o.0 o.1
+  AllIn st os = (o : ℕ × S) → Memᴰ o os → TakenIn join st o.0 o.1
 
-  all_cons : (st : List (Option S)) (o : ℕ × S) (os : List (ℕ × S)) → TakenIn st o.0 o.1 → AllIn st os → AllIn st (o ∷ os)
+  all_cons : (st : List (Option S)) (o : ℕ × S) (os : List (ℕ × S)) → TakenIn join st o.0 o.1 → AllIn st os → AllIn st (o ∷ os)
   all_cons st o os t a p q = elim (Memᴰ.cases_cons q) [ inl e ↦ rw e t | inr m ↦ a p m ]
 
   -- what one way does: nothing is lost, and its place takes in what comes
   abbrev Put : Work S → ℕ → S → Work S → Type 0
-  Put w t x w' = Moved join (λ j. j ≡ t) w w' × TakenIn w'.states t x
+  Put w t x w' = Moved join (λ j. j ≡ t) w w' × TakenIn join w'.states t x
 
   set-moved : (w : Work S) (t : ℕ) (x : S) → t < length w.states
       → ((s : S) → Recorded w.states t s → (y : S) → Takes join s y → Takes join x y)

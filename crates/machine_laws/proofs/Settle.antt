@@ -9,20 +9,10 @@ use lib.ListN.{get_or}
 use Rattle.definition.specs.Res.{Res, ok}
 use Rattle.definition.specs.Machine.{Joined, Effect, Work}
 use Rattle.machine_laws.proofs.Bind.{none≢some, some_inj}
-use Rattle.machine_laws.proofs.Moves.{Laws, Recorded, Grown, Moved, Via, AllIn, grown-refl, grown-trans, taken-grown, puts-inv}
+use Rattle.machine_laws.proofs.Moves.{Grown, Moved, Via, AllIn, grown-refl, grown-trans, taken-grown, puts-inv}
 use Rattle.machine_laws.proofs.Steps.{Steps, stay, drop, step}
-
--- facts of which what the rules read does not change if the end is quiet
-pub record Frame {F R G : Type 0} (view : F → R) (absorb : F → G → F) : Type 1 where
-  pub Quiet : F → Type 0
-  pub still : (f : F) (g : G) → Quiet (absorb f g) → Quiet f × (view (absorb f g) ≡ view f)
-  -- the facts have taken in what was given
-  pub Has : F → G → Type 0
-  pub has : (f : F) (g : G) → Has (absorb f g) g
-  pub keeps : (f : F) (g h : G) → Has f g → Has (absorb f h) g
-  -- what holds of the facts throughout
-  pub Good : F → Type 0
-  pub good : (f : F) (g : G) → Good f → Good (absorb f g)
+use Rattle.machine_laws.proofs.Asked.{Laws, Recorded}
+pub use Rattle.machine_laws.proofs.Asked.{Frame}
 
 module _ {F R S G : Type 0} (join : S → S → Res (Joined S)) (cap : ℕ) (view : F → R) (absorb : F → G → F) (leaves : R → ℕ → S → Res (Effect S G)) where
   -- what the facts keep whatever they take in, they keep in a run

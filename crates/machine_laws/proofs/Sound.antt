@@ -14,16 +14,9 @@ use Rattle.machine_laws.proofs.Settle.{Frame, Settled, Inv, steps-still, steps-s
 use Rattle.machine_laws.proofs.Same.{steps-agree}
 use Rattle.machine_laws.proofs.Reach.{Chain, first, steps-reach}
 use Rattle.machine_laws.proofs.Sweep.{Each, none_left, one_more, Working, Sweep, swept, skip, work, Idle, Apart, check-apart}
+pub use Rattle.machine_laws.proofs.Asked.{Held, Rules}
 
 -- ---- what an accepted check leaves
--- one recorded instruction: its rule accepts the recorded state, each way's place takes in what comes, the facts what it gives
-pub record Held {R S G : Type 0} (join : S → S → Res (Joined S)) (leaves : R → ℕ → S → Res (Effect S G)) (Fits : R → G → Type 0)
-    (r : R) (st : List (Option S)) (i : ℕ) (s : S) : Type 0 where
-  pub out : Effect S G
-  pub leaving : leaves r i s ≡ ok out
-  pub taken : (o : ℕ × S) → Memᴰ o out.ways → TakenIn join st o.0 o.1
-  pub fits : Fits r out.gives
-
 module _ {C R S G : Type 0} (join : S → S → Res (Joined S)) (start : C → R → List (Option S)) (after : C → List (Option S) → Option (ℕ × ℕ))
     (leaves : C → R → ℕ → S → Res (Effect S G)) (Fits : R → G → Type 0) (Pass : C → ℕ → ℕ → Type 0) where
   -- one reachable chunk
@@ -33,19 +26,6 @@ module _ {C R S G : Type 0} (join : S → S → Res (Joined S)) (start : C → R
     pub held : (i : ℕ) (s : S) → Recorded st i s → Held join (leaves c) Fits r st i s
     pub reached : (i : ℕ) (s : S) → Recorded st i s → Chain (Pass c) st i
     pub quiet-after : after c st ≡ none
-
--- ---- what is asked of the rules
-pub record Rules {C F R S G : Type 0} (α : Analysis C F R S G) (frame : Frame α.view α.absorb) (Fits : R → G → Type 0) (Pass : C → ℕ → ℕ → Type 0) : Type 0 where
-  -- validation makes of a state what the rounds make of it, where it accepts
-  pub agree : (c : C) (r : R) (i : ℕ) (s : S) (e e' : Effect S G) → α.leaves true c r i s ≡ ok e → α.leaves false c r i s ≡ ok e' → e ≡ e'
-  pub passes : (v : Bool) (c : C) (r : R) (i : ℕ) (s : S) (e : Effect S G) → α.leaves v c r i s ≡ ok e → (t : ℕ) (x : S) → Memᴰ (t, x) e.ways → Pass c i t
-  -- facts that are not moved are quiet, are read the same when opened again, and what they have fits what the rules read
-  pub calm : (f : F) → α.moved f ≡ false → frame.Quiet f
-  pub reopened : (f : F) → α.moved f ≡ false → α.view (α.opened (α.closed f)) ≡ α.view f
-  pub fitting : (f : F) (g : G) → frame.Good f → α.moved f ≡ false → frame.Has f g → Fits (α.view f) g
-  pub good_start : (r : R) → frame.Good (α.opened r)
-  -- only the first instruction starts
-  pub first-only : (c : C) (r : R) (i : ℕ) (s : S) → Recorded (α.start c r) i s → i ≡ 0
 
 -- validation's facts never change
 abbrev same-frame : {F R G : Type 0} (view : F → R) → Frame {F = F} {R = R} {G = G} view (λ f g. f)
