@@ -1,7 +1,8 @@
 // How a replay reads its entries, counts them, and what it says of them.
 #![tactic(auto)]
 
-ghost use Rattle.std.specs.Prelude.{◌≡◌, ◌≤◌, length, IfOk};
+ghost use Rattle.std.specs.Prelude.{◌≡◌, ◌<◌, ◌≤◌, length, take, IfOk};
+ghost use Rattle.std.specs.Io.KnownBytes.{Consumes, IsAtEnd};
 ghost use Rattle.tally.specs.Tally.{nothing, counted_if, ended_at};
 
 use std::io;
@@ -70,8 +71,11 @@ pub fn note(rt: &impl Print, t: Tally, fine: bool) -> io::Result<()> {
 }
 
 // Reads until the bytes are full or the input ends, and answers how many were read.
-pub fn read_full(input: &mut impl Read, to: &mut [u8]) -> io::Result<usize>
-    ensures { IfOk result (λ n. n ≤ length to.new) }
+pub fn read_full<R: Read>(input: &mut R, to: &mut [u8]) -> io::Result<usize>
+    ensures count { IfOk result (λ n. n ≤ length to.new) }
+    ensures length_kept { length to.new ≡ length to.old }
+    ensures bytes { IfOk result (λ n. Consumes (R.remaining input.old) (R.remaining input.new) (take n to.new)) }
+    ensures end { IfOk result (λ n. n < length to.new → IsAtEnd (R.remaining input.new)) }
 {
     let mut done = 0;
     while done < to.len() {
