@@ -8,6 +8,7 @@ pub mod Reach
 pub mod Sweep
 pub mod Sound
 pub mod Takings
+pub mod Unfull
 pub mod Limits
 pub mod Queued
 pub mod All

@@ -14,6 +14,7 @@ use Rattle.definition.specs.Machine.{Joined, Effect, Work, Seen, Machine, Final,
 use Rattle.machine_laws.specs.Takings.{Counted, after-takings, Spent}
 use Rattle.machine_laws.specs.Full.{Full}
 use Rattle.machine_laws.proofs.Bind.{bad≢ok, bad-inj}
+use Rattle.machine_laws.proofs.Unfull.{Unfull}
 use Rattle.machine_laws.proofs.Moves.{Recorded}
 use Rattle.machine_laws.proofs.Sweep.{accepted-inj}
 use Rattle.machine_laws.proofs.Takings.{accepted-counted, counted-accepted, refused-counted, counted-refused}
@@ -73,12 +74,6 @@ module _ {S : Type 0} (join : S → S → Res (Joined S)) (cap cap' : ℕ) (more
         go (some s) =
             bind-more (leaves (view f) i s) (leaves (view f) i s) _ _ (inr refl)
             (λ e. bind-more (puts join cap (record { states = st; queue = q }) e.ways) _ _ _ (puts-more _ e.ways) (λ w. inr refl))
-
--- the machine has not stopped because of a full queue
-abbrev pub Unfull : {C F R S : Type 0} → Where C F R S → Type 0
-Unfull (due m) = Unit {0}
-Unfull (done x) = Unit {0}
-Unfull (stop x) = x.number ≡ 8 → ⊥
 
 -- the same with another room in the queue
 abbrev pub with_room : {C F R S G : Type 0} → Analysis C F R S G → ℕ → Analysis C F R S G

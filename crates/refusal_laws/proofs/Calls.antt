@@ -17,8 +17,9 @@ use Rattle.definition.specs.Form.{form_of}
 use Rattle.definition.specs.Report.{report_bytes}
 use Rattle.definition.specs.Call.{Decided, reported, turned, decided, on_form, decide, Outcome, left_words, turned_back, delivered, outcome_of, call}
 use Rattle.refusal_laws.proofs.Only.{either, OfForm, OfDecided}
-use Rattle.refusal_laws.proofs.Forms.{Early, form-early}
-use Rattle.refusal_laws.proofs.Rules.{Late, decided-late}
+use Rattle.refusal_laws.proofs.Numbers.{Early, Late}
+use Rattle.refusal_laws.proofs.Forms.{form-early}
+use Rattle.refusal_laws.proofs.Rules.{decided-late}
 use Rattle.refusal_laws.proofs.Left.{left-as-was, left-zero, delivered-zero}
 
 abbrev Numbered : ℕ → Type 0

@@ -19,9 +19,7 @@ use Rattle.definition.specs.declared.Form.{Form}
 use Rattle.definition.specs.declared.Form.TheVariants.{Fine, Refused}
 use Rattle.definition.specs.Form.{lowest, header_fault, chunk_fault, instr_fault, site_fault, table_fault, or_stop, header_step, chunk_step, instr_step, site_step, table_step, field_step, late_fault, late_look, after_look, finished, on_step, scan_from, unscanned, form_of}
 use Rattle.refusal_laws.proofs.Only.{either, OfFault, OfStep, OfForm, there}
-
-abbrev pub Early : ℕ → Type 0
-Early n = (0 < n) × (n ≤ 4)
+use Rattle.refusal_laws.proofs.Numbers.{Early}
 
 -- `lowest` and `or_stop` shut, so that a rewrite finds their arguments
 unfoldable faults : Bool → Bool → Bool → Bool → ℕ

@@ -10,7 +10,8 @@ use Rattle.definition.specs.Module.{Module}
 use Rattle.definition.specs.Report.{report_bytes}
 use Rattle.definition.specs.Call.{Decided, reported, turned, decided, Outcome, left_words, turned_back, delivered, outcome_of}
 use Rattle.refusal_laws.proofs.Only.{either, OfDecided}
-use Rattle.refusal_laws.proofs.Rules.{Late, decided-late}
+use Rattle.refusal_laws.proofs.Numbers.{Late}
+use Rattle.refusal_laws.proofs.Rules.{decided-late}
 
 pub left-as-was : (n : ℕ) (ws : List ℕ) → n < 6 → left_words n ws ≡ ws
 unfolding left_words

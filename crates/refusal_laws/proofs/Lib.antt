@@ -1,4 +1,5 @@
 pub mod Only
+pub mod Numbers
 pub mod Forms
 pub mod Visits
 pub mod Runs

@@ -17,9 +17,7 @@ use Rattle.definition.specs.Call.{analysis_of, run_of, turned, on_ran, admitted_
 use Rattle.refusal_laws.proofs.Only.{either, OfFault, OfRes, OfPlace, OfRan, OfDecided, there}
 use Rattle.refusal_laws.proofs.Visits.{leaves_of, join-of, after-of}
 use Rattle.refusal_laws.proofs.Runs.{check-only}
-
-abbrev pub Late : ℕ → Type 0
-Late n = (7 ≤ n) × (n ≤ 18)
+use Rattle.refusal_laws.proofs.Numbers.{Late}
 
 -- ---- the rules
 leaves-late : (k : Known) (b : Bool) (c : Chunk) (f : Facts) (i : ℕ) (s : State) → OfRes Late (leaves k b c f i s)
