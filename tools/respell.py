@@ -90,7 +90,8 @@ def main():
         return
     for p, words in LEMMAS.items():
         p = "crates/" + p
-        for w in words.split():
+        # (unfinished crates stand only above the last landing)
+        for w in words.split() if p in texts else []:
             texts[p] = re.sub(r"(?<![A-Za-z0-9_'.-])" + w + r"(?![A-Za-z0-9_'.-])", w + "_lem", texts[p])
     for p, t in texts.items():
         new = TOKEN.sub(lambda m: rename.get(m.group(0), m.group(0)), t)
