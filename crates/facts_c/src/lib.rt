@@ -228,7 +228,7 @@ pub extern "C" fn facts_start(
     ensures { StartOf description.now workspace.old report.old index.old indexed allowance result
         answer.new report.new index.new workspace.new }
 {
-    let words = turn_words(start_run(
+    let turn = turn_words(start_run(
         description,
         workspace,
         report,
@@ -236,8 +236,8 @@ pub extern "C" fn facts_start(
         indexed != 0,
         allowance,
     ));
-    *answer = words;
-    words[0]
+    *answer = turn;
+    turn[0]
 }
 
 // Takes it up, for so many steps more; 21 where the mark is wrong.
@@ -254,7 +254,7 @@ pub extern "C" fn facts_resume(
     ensures { ResumeOf description.now workspace.old report.old index.old indexed allowance result
         answer.new report.new index.new workspace.new }
 {
-    let words = turn_words(resume_run(
+    let turn = turn_words(resume_run(
         description,
         workspace,
         report,
@@ -262,6 +262,6 @@ pub extern "C" fn facts_resume(
         indexed != 0,
         allowance,
     ));
-    *answer = words;
-    words[0]
+    *answer = turn;
+    turn[0]
 }

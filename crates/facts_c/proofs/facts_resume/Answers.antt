@@ -5,4 +5,4 @@ use Rattle.facts_c.proofs.facts_resume.Goals as goal
 
 pub returns : goal.returns
 unfolding wanted
-returns c = record { answer = c.resume_run.result; numbers = c.turn_words-words.ensures; number = refl; run = c.resume_run.ensures }
+returns c = record { answer = c.resume_run.result; numbers = c.turn_words-turn.ensures; number = refl; run = c.resume_run.ensures }
