@@ -8,7 +8,7 @@ use answers::{Answer, nowhere};
 use facts::check;
 use listing::list;
 use std::io;
-use std::io::Read;
+use tally::read_full;
 
 // Room for the report and the words, of zeros.
 fn report_room() -> [u8; 16384]
@@ -38,10 +38,10 @@ pub fn list_facts(description: &[u8], text: &mut [u8]) -> usize
 }
 
 // Reads a description from standard input, no further than to its byte 16,385, and writes its listing, for which the text has room.
-pub fn run(rt: &(impl Input + Print + AllocGlobal)) -> io::Result<()> {
-    let mut description = Vec::new(rt.alloc());
+pub fn run(rt: &(impl Input + Print)) -> io::Result<()> {
+    let mut description = [0u8; 16385];
     let mut text = [0u8; 65536];
-    rt.reader().take(16385).read_to_end(&mut description)?;
-    let k = list_facts(&description, &mut text);
+    let n = read_full(&mut rt.reader(), &mut description)?;
+    let k = list_facts(&description[..n], &mut text);
     rt.write_all(&text[..k])
 }
