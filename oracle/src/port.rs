@@ -8,8 +8,8 @@ pub enum Answer {
 
 pub fn check(description: &[u8], workspace: &mut [u32], report: &mut [u8], limit: u32) -> Answer {
     match facts::check(description, workspace, report, limit) {
-        facts::Answer::Accepted { length, steps } => Answer::Accepted { length, steps },
-        facts::Answer::Refused(refusal) => refused(refusal),
+        Ok(facts::Accepted { length, steps }) => Answer::Accepted { length, steps },
+        Err(refusal) => refused(refusal),
     }
 }
 
@@ -31,16 +31,16 @@ pub fn check_indexed(
     limit: u32,
 ) -> (Answer, usize) {
     match facts::check_indexed(description, workspace, report, index, limit) {
-        facts::IndexedAnswer::Accepted { length, steps, index } => (Answer::Accepted { length, steps }, index),
-        facts::IndexedAnswer::Refused(refusal) => (refused(refusal), 0),
+        Ok(facts::AcceptedIndexed { length, steps, index }) => (Answer::Accepted { length, steps }, index),
+        Err(refusal) => (refused(refusal), 0),
     }
 }
 
 /// The lookup through an index; None where the two disagree.
 pub fn lookup_indexed<'a>(report: &'a [u8], index: &[u8], chunk: u16, instruction: u16) -> Option<&'a [u8]> {
     match facts::lookup_indexed(report, index, chunk, instruction) {
-        facts::Sought::Found(part) => Some(&report[part.first..part.first + part.size]),
-        facts::Sought::Disagrees(refusal) => {
+        Ok(part) => Some(&report[part.first..part.first + part.size]),
+        Err(refusal) => {
             let named = (refusal.number, refusal.chunk, refusal.instruction, refusal.steps);
             assert_eq!(named, (20, 65535, 65535, 0), "what a disagreement names");
             None

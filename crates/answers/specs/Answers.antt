@@ -1,10 +1,16 @@
 -- Document 01's numbers and values for each case of an answer; document 02, Three: of the answer of a call with an index.
-use Rattle.std.specs.Prelude.{ℕ, cond, List, [], ◌∷◌, ltb}
+use Rattle.std.specs.Prelude.{ℕ, cond, Result, Ok, Err, List, [], ◌∷◌, ltb}
 use Rattle.answers.specs.declared.Refusal.{Refusal}
-use Rattle.answers.specs.declared.Answer.{Answer}
-use Rattle.answers.specs.declared.Answer.TheVariants.{Accepted, Refused}
-use Rattle.answers.specs.declared.IndexedAnswer.{IndexedAnswer}
-use Rattle.answers.specs.declared.IndexedAnswer.TheVariants.{Accepted as AcceptedWith, Refused as RefusedWith}
+use Rattle.answers.specs.declared.Accepted.{Accepted}
+use Rattle.answers.specs.declared.AcceptedIndexed.{AcceptedIndexed}
+
+-- a call that accepts, with this length of the report and these steps
+abbrev pub accepts : ℕ → ℕ → Result Accepted Refusal
+accepts length steps = Ok (record { length = length; steps = steps })
+
+-- the same with an index of this length
+abbrev pub accepts_with : ℕ → ℕ → ℕ → Result AcceptedIndexed Refusal
+accepts_with length steps index = Ok (record { length = length; steps = steps; index = index })
 
 -- a refusal at an instruction of a chunk
 abbrev pub refusal : ℕ → ℕ → ℕ → ℕ → Refusal
@@ -19,11 +25,11 @@ unfoldable pub in_field : ℕ → ℕ → ℕ → Refusal
 in_field n c i = cond (ltb n 3) (nowhere n 0) (refusal n c i 0)
 
 -- an answer as numbers: the refusal's number or 0, the chunk and the instruction that it names, the steps, the report's length
-unfoldable pub numbers : Answer → List ℕ
-numbers (Accepted length steps) = 0 ∷ 65535 ∷ 65535 ∷ steps ∷ length ∷ []
-numbers (Refused r) = r.number ∷ r.chunk ∷ r.instruction ∷ r.steps ∷ 0 ∷ []
+unfoldable pub numbers : Result Accepted Refusal → List ℕ
+numbers (Ok a) = 0 ∷ 65535 ∷ 65535 ∷ a.steps ∷ a.length ∷ []
+numbers (Err r) = r.number ∷ r.chunk ∷ r.instruction ∷ r.steps ∷ 0 ∷ []
 
 -- the same, and the index's length
-unfoldable pub indexed_numbers : IndexedAnswer → List ℕ
-indexed_numbers (AcceptedWith length steps index) = 0 ∷ 65535 ∷ 65535 ∷ steps ∷ length ∷ index ∷ []
-indexed_numbers (RefusedWith r) = r.number ∷ r.chunk ∷ r.instruction ∷ r.steps ∷ 0 ∷ 0 ∷ []
+unfoldable pub indexed_numbers : Result AcceptedIndexed Refusal → List ℕ
+indexed_numbers (Ok a) = 0 ∷ 65535 ∷ 65535 ∷ a.steps ∷ a.length ∷ a.index ∷ []
+indexed_numbers (Err r) = r.number ∷ r.chunk ∷ r.instruction ∷ r.steps ∷ 0 ∷ 0 ∷ []

@@ -13,21 +13,19 @@ pub struct Refusal {
     pub steps: u32,
 }
 
+// What a call that accepts says: the length of the report and the steps taken.
 #[derive(Clone, Copy)]
-pub enum Answer {
-    Accepted { length: usize, steps: u32 },
-    Refused(Refusal),
+pub struct Accepted {
+    pub length: usize,
+    pub steps: u32,
 }
 
 // Of a call with an index: the length of the index, too.
 #[derive(Clone, Copy)]
-pub enum IndexedAnswer {
-    Accepted {
-        length: usize,
-        steps: u32,
-        index: usize,
-    },
-    Refused(Refusal),
+pub struct AcceptedIndexed {
+    pub length: usize,
+    pub steps: u32,
+    pub index: usize,
 }
 
 // A refusal that names neither chunk nor instruction.

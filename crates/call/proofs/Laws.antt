@@ -6,15 +6,11 @@ use mathlib.Core.Bool.{Bool, true, false, cond}
 use mathlib.Core.List.{List}
 use lib.Dec.{leb}
 use lib.ListN.{length, get_or, replicate}
+use Rattle.std.specs.Prelude.{Result, Ok, Err}
 use Rattle.answers.specs.declared.Refusal.{Refusal}
-use Rattle.answers.specs.declared.Answer.{Answer}
-use Rattle.answers.specs.declared.Answer.TheVariants.{Refused}
-use Rattle.answers.specs.declared.IndexedAnswer.{IndexedAnswer}
-use Rattle.answers.specs.declared.IndexedAnswer.TheVariants.{Refused as RefusedWith}
+use Rattle.answers.specs.declared.Accepted.{Accepted}
+use Rattle.answers.specs.declared.AcceptedIndexed.{AcceptedIndexed}
 use Rattle.answers.specs.Answers.{numbers, indexed_numbers, nowhere}
-use Rattle.definition.specs.declared.Form.{Form}
-use Rattle.definition.specs.declared.Form.TheVariants.{Fine}
-use Rattle.definition.specs.declared.Form.TheVariants.{Refused as Malformed}
 use Rattle.definition.specs.Form.{form_of}
 use Rattle.definition.specs.Module.{module_of}
 use Rattle.definition.specs.Call.{turned, decided, decide, left_words, turned_back, outcome_of, call}
@@ -39,7 +35,7 @@ use Rattle.call.specs.CheckedIndexed.{CheckedIndexed}
 
 -- ---- the whole call
 -- what there is to work with
-pub good-room : (s ws : List ℕ) (f : Form) (w : ℕ) → f ≡ room_of s (length ws) → f ≡ Fine w → Good s w × (w < length ws) × (words_of (module_of s) < length ws)
+pub good-room : (s ws : List ℕ) (f : Result ℕ Refusal) (w : ℕ) → f ≡ room_of s (length ws) → f ≡ Ok w → Good s w × (w < length ws) × (words_of (module_of s) < length ws)
 good-room s ws f w h e =
     let q = room-fine s (length ws) w (sym h ∙ e) in
     let g = good-form s w q.0 in
@@ -47,29 +43,29 @@ good-room s ws f w h e =
 
 module _ (s ws : List ℕ) (limit : ℕ) where
   -- refusals 1 to 5
-  few : (words : ℕ) (f : Form) (r : Refusal) → ((q : Refusal) → f ≡ Malformed q → q.number ≤ 4) → room_by f words ≡ Malformed r → r.number < 6
+  few : (words : ℕ) (f : Result ℕ Refusal) (r : Refusal) → ((q : Refusal) → f ≡ Err q → q.number ≤ 4) → room_by f words ≡ Err r → r.number < 6
   unfolding room_by with_room
-  few words (Malformed q) r h e = let z : q ≡ r = cc in omega (arith, h q refl, ap (λ (x : Refusal). x.number) z)
-  few words (Fine w) r h e = go (leb words w) e
+  few words (Err q) r h e = let z : q ≡ r = cc in omega (arith, h q refl, ap (λ (x : Refusal). x.number) z)
+  few words (Ok w) r h e = go (leb words w) e
     where
-      go : (b : Bool) → cond b (Malformed (nowhere 5 0)) (Fine w) ≡ Malformed r → r.number < 6
+      go : (b : Bool) → cond b (Err (nowhere 5 0)) (Ok w) ≡ Err r → r.number < 6
       go true e = let z : nowhere 5 0 ≡ r = cc in omega (arith, ap (λ (x : Refusal). x.number) z)
       go false e = absurd (let z : ◌≡◌ {A = ℕ} 0 1 = cc in omega arith)
 
-  room-number : (r : Refusal) → room_of s (length ws) ≡ Malformed r → r.number < 6
+  room-number : (r : Refusal) → room_of s (length ws) ≡ Err r → r.number < 6
   unfolding room_of
   room-number r e = few (length ws) (form_of s) r (λ q h. (form-numbers s q h).1) e
 
-  module _ (f : Form) (h : f ≡ room_of s (length ws)) where
+  module _ (f : Result ℕ Refusal) (h : f ≡ room_of s (length ws)) where
     -- what is decided: a refusal that leaves the workspace, or what the run comes to
-    decides-refused : (r : Refusal) → f ≡ Malformed r → decide s (length ws) limit ≡ turned r
+    decides-refused : (r : Refusal) → f ≡ Err r → decide s (length ws) limit ≡ turned r
     unfolding on_room
     decides-refused r e = room-decides s (length ws) limit ∙ ap (on_room s (length ws) limit) (sym h ∙ e)
 
-    left_here : (r : Refusal) → f ≡ Malformed r → ws ≡ left_words r.number ws
+    left_here : (r : Refusal) → f ≡ Err r → ws ≡ left_words r.number ws
     left_here r e = sym (left-as-was r.number ws (room-number r (sym h ∙ e)))
 
-    decides-ran : (w : ℕ) (v : List ℕ) → f ≡ Fine w → length v ≡ length ws → decide s (length ws) limit ≡ decided (module_of s) (room_in s v) limit
+    decides-ran : (w : ℕ) (v : List ℕ) → f ≡ Ok w → length v ≡ length ws → decide s (length ws) limit ≡ decided (module_of s) (room_in s v) limit
     unfolding on_room
     decides-ran w v e l =
         let g = (good-room s ws f w h e).0 in
@@ -82,7 +78,7 @@ module _ (s ws : List ℕ) (limit : ℕ) where
   -- ---- without an index
   module _ (buf : List ℕ) where
     -- demand 3, and that there is one report, follow from the rest
-    checked : (r : Answer) (buf' ws' : List ℕ) → r ≡ (call s ws buf limit).answer → buf' ≡ (call s ws buf limit).report → ws' ≡ (call s ws buf limit).workspace → get_or (numbers r) 4 0 < 4294967296
+    checked : (r : Result Accepted Refusal) (buf' ws' : List ℕ) → r ≡ (call s ws buf limit).answer → buf' ≡ (call s ws buf limit).report → ws' ≡ (call s ws buf limit).workspace → get_or (numbers r) 4 0 < 4294967296
         → Checked s ws buf limit r buf' ws'
     checked r buf' ws' a b w n =
         record {
@@ -96,13 +92,13 @@ module _ (s ws : List ℕ) (limit : ℕ) where
           one-report = λ long steps e. rw b (one-report s ws buf limit long steps (sym a ∙ e));
         }
 
-    pub checked_refused : (f : Form) (r : Refusal) → f ≡ room_of s (length ws) → f ≡ Malformed r → Checked s ws buf limit (Refused r) buf ws
+    pub checked_refused : (f : Result ℕ Refusal) (r : Refusal) → f ≡ room_of s (length ws) → f ≡ Err r → Checked s ws buf limit (Err r) buf ws
     unfolding call outcome_of turned_back
     checked_refused f r h e =
         let d = decides-refused f h r e in
-        checked (Refused r) buf ws (rw d) (rw d) (rw d (left_here f h r e)) (short-refused r)
+        checked (Err r) buf ws (rw d) (rw d) (rw d (left_here f h r e)) (short-refused r)
 
-    pub checked-ran : (f : Form) (w : ℕ) (v ws' buf' : List ℕ) (r : Answer) → f ≡ room_of s (length ws) → f ≡ Fine w → length v ≡ length ws
+    pub checked-ran : (f : Result ℕ Refusal) (w : ℕ) (v ws' buf' : List ℕ) (r : Result Accepted Refusal) → f ≡ room_of s (length ws) → f ≡ Ok w → length v ≡ length ws
         → Told (decided (module_of s) (room_in s v) limit) buf r buf' → (u : List ℕ) → length u ≡ length ws → ws' ≡ cleared u (length ws) → Checked s ws buf limit r buf' ws'
     unfolding call
     checked-ran f w v ws' buf' r h e l t u k c =
@@ -114,7 +110,7 @@ module _ (s ws : List ℕ) (limit : ℕ) where
   -- ---- with an index
   module _ (buf idx : List ℕ) where
     -- what holds of an accepted report follows from the call without an index, what holds of its index from the definition
-    checked-with : (r : IndexedAnswer) (buf' idx' ws' : List ℕ) → r ≡ (call_indexed s ws buf idx limit).answer → buf' ≡ (call_indexed s ws buf idx limit).report
+    checked-with : (r : Result AcceptedIndexed Refusal) (buf' idx' ws' : List ℕ) → r ≡ (call_indexed s ws buf idx limit).answer → buf' ≡ (call_indexed s ws buf idx limit).report
         → idx' ≡ (call_indexed s ws buf idx limit).index → ws' ≡ (call_indexed s ws buf idx limit).workspace
         → (get_or (indexed_numbers r) 4 0 < 4294967296) × (get_or (indexed_numbers r) 5 0 < 4294967296) → CheckedIndexed s ws buf idx limit r buf' idx' ws'
     checked-with r buf' idx' ws' a b i w n =
@@ -138,13 +134,13 @@ module _ (s ws : List ℕ) (limit : ℕ) where
           own-index = λ long steps k e. rw (b, i) (accepted-own s ws buf idx limit long steps k (sym a ∙ e));
         }
 
-    pub refused-with-index : (f : Form) (r : Refusal) → f ≡ room_of s (length ws) → f ≡ Malformed r → CheckedIndexed s ws buf idx limit (RefusedWith r) buf idx ws
+    pub refused-with-index : (f : Result ℕ Refusal) (r : Refusal) → f ≡ room_of s (length ws) → f ≡ Err r → CheckedIndexed s ws buf idx limit (Err r) buf idx ws
     unfolding call_indexed outcome_with turned_back_with
     refused-with-index f r h e =
         let d = decides-refused f h r e in
-        checked-with (RefusedWith r) buf idx ws (rw d) (rw d) (rw d) (rw d (left_here f h r e)) (short-refused-with r)
+        checked-with (Err r) buf idx ws (rw d) (rw d) (rw d) (rw d (left_here f h r e)) (short-refused-with r)
 
-    pub ran-with-index : (f : Form) (w : ℕ) (v ws' buf' idx' : List ℕ) (r : IndexedAnswer) → f ≡ room_of s (length ws) → f ≡ Fine w → length v ≡ length ws
+    pub ran-with-index : (f : Result ℕ Refusal) (w : ℕ) (v ws' buf' idx' : List ℕ) (r : Result AcceptedIndexed Refusal) → f ≡ room_of s (length ws) → f ≡ Ok w → length v ≡ length ws
         → ToldIndexed (decided (module_of s) (room_in s v) limit) buf idx r buf' idx' → (u : List ℕ) → length u ≡ length ws → ws' ≡ cleared u (length ws)
         → CheckedIndexed s ws buf idx limit r buf' idx' ws'
     unfolding call_indexed

@@ -9,47 +9,47 @@ ghost use Rattle.call.specs.delivering.Told.{Told, ToldIndexed};
 ghost use Rattle.call.specs.analyzing.Reached.{ReachedBy};
 
 use crate::delivering::{deliver, deliver_indexed};
-use answers::{Answer, IndexedAnswer, Refusal};
+use answers::{Accepted, AcceptedIndexed, Refusal};
 use layout::Tables;
-use run::{RunEnd, run};
-use start::{Started, start};
+use run::run;
+use start::start;
 
-// What a run has come to: a refusal, or the reply's largest body and the steps, the facts standing in the workspace.
+// What an accepted run has come to: the reply's largest body and the steps, the facts standing in the workspace.
 #[derive(Clone, Copy)]
-pub enum Reached {
-    Refused(Refusal),
-    Ready { reply: u32, steps: u32 },
+pub struct End {
+    pub reply: u32,
+    pub steps: u32,
 }
 
 // Refusals 9 to 12, and the run.
-fn decide_run(s: &[u8], ws: &mut [u32], t: Tables, limit: u32) -> Reached
+fn decide_run(s: &[u8], ws: &mut [u32], t: Tables, limit: u32) -> Result<End, Refusal>
     requires indexed { Indexed s.now ws.old }
     requires fresh { Fresh s.now ws.old }
     requires s_in_bounds { words_of (module_of s.now) < length ws.old }
     requires t_value { t ≡ tables_of s.now }
     ensures { ReachedBy (decided (module_of s.now) (room_in s.now ws.old) limit) s.now ws.new result }
 {
-    match start(s, ws, t) {
-        Started::Refused(r) => Reached::Refused(r),
-        Started::Ready(reply) => match run(s, ws, t, limit) {
-            RunEnd::Stop(r) => Reached::Refused(r),
-            RunEnd::Done(steps) => Reached::Ready { reply, steps },
-        },
-    }
+    let reply = start(s, ws, t)?;
+    let steps = run(s, ws, t, limit)?;
+    Ok(End { reply, steps })
 }
 
 // Then the report.
-pub fn analyze(s: &[u8], ws: &mut [u32], buf: &mut [u8], t: Tables, limit: u32) -> Answer
+pub fn analyze(
+    s: &[u8],
+    ws: &mut [u32],
+    buf: &mut [u8],
+    t: Tables,
+    limit: u32,
+) -> Result<Accepted, Refusal>
     requires indexed { Indexed s.now ws.old }
     requires fresh { Fresh s.now ws.old }
     requires s_in_bounds { words_of (module_of s.now) < length ws.old }
     requires t_value { t ≡ tables_of s.now }
     ensures { Told (decided (module_of s.now) (room_in s.now ws.old) limit) buf.old result buf.new }
 {
-    match decide_run(s, ws, t, limit) {
-        Reached::Refused(r) => Answer::Refused(r),
-        Reached::Ready { reply, steps } => deliver(s, ws, buf, t, reply, steps),
-    }
+    let end = decide_run(s, ws, t, limit)?;
+    deliver(s, ws, buf, t, end.reply, end.steps)
 }
 
 // Then the report and its index.
@@ -60,7 +60,7 @@ pub fn analyze_indexed(
     idx: &mut [u8],
     t: Tables,
     limit: u32,
-) -> IndexedAnswer
+) -> Result<AcceptedIndexed, Refusal>
     requires indexed { Indexed s.now ws.old }
     requires fresh { Fresh s.now ws.old }
     requires s_in_bounds { words_of (module_of s.now) < length ws.old }
@@ -68,8 +68,6 @@ pub fn analyze_indexed(
     ensures { ToldIndexed (decided (module_of s.now) (room_in s.now ws.old) limit)
         buf.old idx.old result buf.new idx.new }
 {
-    match decide_run(s, ws, t, limit) {
-        Reached::Refused(r) => IndexedAnswer::Refused(r),
-        Reached::Ready { reply, steps } => deliver_indexed(s, ws, buf, idx, t, reply, steps),
-    }
+    let end = decide_run(s, ws, t, limit)?;
+    deliver_indexed(s, ws, buf, idx, t, end.reply, end.steps)
 }

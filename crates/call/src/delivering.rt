@@ -6,14 +6,21 @@ ghost use Rattle.run_state.specs.Course.{Ended};
 ghost use Rattle.report_size.specs.Reporting.{Faultless, report_in};
 ghost use Rattle.call.specs.delivering.Told.{Told, ToldIndexed};
 
-use answers::{Answer, IndexedAnswer, nowhere};
+use answers::{Accepted, AcceptedIndexed, Refusal, nowhere};
 use layout::Tables;
 use report_index::{ENTRY, write_index};
 use report_size::{count_records, measure};
 use report_write::write;
 
 // Measures the report, and writes it where the buffer is long enough; refusal 6 where it is not.
-pub fn deliver(s: &[u8], ws: &[u32], buf: &mut [u8], t: Tables, reply: u32, steps: u32) -> Answer
+pub fn deliver(
+    s: &[u8],
+    ws: &[u32],
+    buf: &mut [u8],
+    t: Tables,
+    reply: u32,
+    steps: u32,
+) -> Result<Accepted, Refusal>
     requires ended { Ended s.now ws.now }
     requires faultless { Faultless s.now ws.now }
     requires t_value { t ≡ tables_of s.now }
@@ -21,10 +28,10 @@ pub fn deliver(s: &[u8], ws: &[u32], buf: &mut [u8], t: Tables, reply: u32, step
 {
     let length = measure(s, ws, t);
     if buf.len() < length {
-        return Answer::Refused(nowhere(6, steps));
+        return Err(nowhere(6, steps));
     }
     write(s, ws, buf, t, reply);
-    Answer::Accepted { length, steps }
+    Ok(Accepted { length, steps })
 }
 
 // Measures both, and writes them where both buffers are long enough; refusal 6, then 19, where one is not.
@@ -36,7 +43,7 @@ pub fn deliver_indexed(
     t: Tables,
     reply: u32,
     steps: u32,
-) -> IndexedAnswer
+) -> Result<AcceptedIndexed, Refusal>
     requires ended { Ended s.now ws.now }
     requires faultless { Faultless s.now ws.now }
     requires t_value { t ≡ tables_of s.now }
@@ -46,16 +53,16 @@ pub fn deliver_indexed(
     let report = measure(s, ws, t);
     let index = ENTRY * count_records(s, ws, t);
     if buf.len() < report {
-        return IndexedAnswer::Refused(nowhere(6, steps));
+        return Err(nowhere(6, steps));
     }
     if idx.len() < index {
-        return IndexedAnswer::Refused(nowhere(19, steps));
+        return Err(nowhere(19, steps));
     }
     write(s, ws, buf, t, reply);
     write_index(&buf[..report], idx);
-    IndexedAnswer::Accepted {
+    Ok(AcceptedIndexed {
         length: report,
         steps,
         index,
-    }
+    })
 }

@@ -9,27 +9,27 @@ ghost use Rattle.call.specs.Checked.{Checked};
 ghost use Rattle.call.specs.CheckedIndexed.{CheckedIndexed};
 
 use analyzing::{analyze, analyze_indexed};
-use answers::{Answer, IndexedAnswer};
-use definition::Form;
+use answers::{Accepted, AcceptedIndexed, Refusal};
 pub use delivering::{deliver, deliver_indexed};
 use form::check_room;
 use index_fill::fill;
 use words::clear;
 
 // The facts of a description: the report's length and the steps, or the refusal.
-pub fn check(description: &[u8], workspace: &mut [u32], report: &mut [u8], limit: u32) -> Answer
+pub fn check(
+    description: &[u8],
+    workspace: &mut [u32],
+    report: &mut [u8],
+    limit: u32,
+) -> Result<Accepted, Refusal>
     ensures { Checked description.now workspace.old report.old limit result report.new workspace.new }
 {
     let n = workspace.len();
-    match check_room(description, n) {
-        Form::Refused(r) => Answer::Refused(r),
-        Form::Fine(words) => {
-            let t = fill(description, workspace, words as usize);
-            let answer = analyze(description, workspace, report, t, limit);
-            clear(workspace, n);
-            answer
-        }
-    }
+    let words = check_room(description, n)?;
+    let t = fill(description, workspace, words as usize);
+    let answer = analyze(description, workspace, report, t, limit);
+    clear(workspace, n);
+    answer
 }
 
 // The same with an index beside the report: its length, too.
@@ -39,18 +39,14 @@ pub fn check_indexed(
     report: &mut [u8],
     index: &mut [u8],
     limit: u32,
-) -> IndexedAnswer
+) -> Result<AcceptedIndexed, Refusal>
     ensures { CheckedIndexed description.now workspace.old report.old index.old limit result
         report.new index.new workspace.new }
 {
     let room = workspace.len();
-    match check_room(description, room) {
-        Form::Refused(r) => IndexedAnswer::Refused(r),
-        Form::Fine(words) => {
-            let t = fill(description, workspace, words as usize);
-            let answer = analyze_indexed(description, workspace, report, index, t, limit);
-            clear(workspace, room);
-            answer
-        }
-    }
+    let words = check_room(description, room)?;
+    let t = fill(description, workspace, words as usize);
+    let answer = analyze_indexed(description, workspace, report, index, t, limit);
+    clear(workspace, room);
+    answer
 }

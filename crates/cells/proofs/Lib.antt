@@ -1,1 +1,2 @@
 pub mod BodyIndex
+pub mod Same

@@ -1,5 +1,5 @@
 -- Cells: what types.rs keeps as tag, width and flow of one place. `value_fact` is `declared`, `ValueFact::join` of bare cells and `Facts::join` are `join_cell`.
-use Rattle.std.specs.Prelude.{ℕ, ◌-◌, Bool, cond, not, ◌&&◌, get_or}
+use Rattle.std.specs.Prelude.{ℕ, ◌-◌, Bool, cond, not, ◌&&◌, get_or, true, false}
 use Rattle.std.specs.Int.Count.{count_trailing_zeros}
 use Rattle.masks.specs.declared.Mask.{Mask}
 use Rattle.masks.specs.Mask.{union, same, kind, one_kind, has}
@@ -10,18 +10,16 @@ use Rattle.widths.specs.declared.Shape.{Shape}
 use Rattle.widths.specs.Width.{join_width, same_width, scalar_width}
 use Rattle.widths.specs.Shape.{shape_mask, declared_width}
 use Rattle.extents.specs.Extent.{exact_width}
-use Rattle.flows.specs.declared.Owned.{Owned}
-use Rattle.flows.specs.declared.Owned.TheVariants.{No, Yes}
 use Rattle.flows.specs.declared.Flow.{Flow}
 use Rattle.flows.specs.Flow.{join_flow, same_flow, no_flow, new_flow, invalidated, bare, absent}
 use Rattle.cells.specs.declared.Cell.{Cell}
 use Rattle.cells.specs.declared.JoinedCell.{JoinedCell}
 
 -- owned, if a body of known size is
-abbrev pub owned_width : Width → Bool → Owned
-owned_width Wide owns = No
-owned_width (Scalar n) owns = No
-owned_width (Body n) owns = cond owns Yes No
+abbrev pub owned_width : Width → Bool → Bool
+owned_width Wide owns = false
+owned_width (Scalar n) owns = false
+owned_width (Body n) owns = owns
 
 -- a local that was not written
 unfoldable pub unit_cell : Cell
@@ -29,7 +27,7 @@ unit_cell = record { mask = UNIT; width = Scalar 0; flow = no_flow }
 
 -- what a rule that gives only a mask makes of it
 unfoldable pub made : Mask → ℕ → Cell
-made m float = record { mask = m; width = scalar_width m float; flow = new_flow m (scalar_width m float) No }
+made m float = record { mask = m; width = scalar_width m float; flow = new_flow m (scalar_width m float) false }
 
 -- what a declared shape says of a value
 unfoldable pub declared : Shape → Bool → Cell

@@ -4,15 +4,15 @@
 mod guarding;
 
 ghost use Rattle.std.specs.Prelude.{◌≡◌};
-ghost use Rattle.cells.specs.Cell.{join_cell, same_cell, joined_cell, made, declared, invalidated_cell, bare_cell, narrow_enum, unit_cell, owned_width};
+ghost use Rattle.cells.specs.Cell.{join_cell, joined_cell, made, declared, invalidated_cell, bare_cell, narrow_enum, unit_cell, owned_width};
 
-use flows::{Flow, Owned};
+use flows::Flow;
 pub use guarding::guarded_width;
 use masks::Mask;
 use widths::{Shape, Width, scalar_width};
 
 // What is known of the value in one place.
-#[derive(Clone, Copy)]
+#[derive(Clone, Copy, PartialEq, Eq)]
 pub struct Cell {
     pub mask: Mask,
     pub width: Width,
@@ -26,13 +26,13 @@ pub struct JoinedCell {
 }
 
 // Owned, if a body of known size is.
-pub fn owned_width(width: Width, owns: bool) -> Owned
+pub fn owned_width(width: Width, owns: bool) -> bool
     ensures { result ≡ owned_width width owns }
 {
     match width {
-        Width::Body(_) => if owns { Owned::Yes } else { Owned::No },
-        Width::Scalar(_) => Owned::No,
-        Width::Unknown => Owned::No,
+        Width::Body(_) => owns,
+        Width::Scalar(_) => false,
+        Width::Unknown => false,
     }
 }
 
@@ -56,7 +56,7 @@ impl Cell {
         Cell {
             mask,
             width,
-            flow: Flow::new(mask, width, Owned::No),
+            flow: Flow::new(mask, width, false),
         }
     }
 
@@ -89,29 +89,13 @@ impl Cell {
         }
     }
 
-    pub fn same(self, other: Cell) -> bool
-        ensures { result ≡ same_cell self other }
-    {
-        let m1 = self.mask;
-        let m2 = other.mask;
-        let w1 = self.width;
-        let w2 = other.width;
-        let f1 = self.flow;
-        let f2 = other.flow;
-        let m = m1.same(m2);
-        let w = w1.same(w2);
-        let f = f1.same(f2);
-        m & (w & f)
-    }
-
     pub fn join(self, other: Cell) -> JoinedCell
         ensures { result ≡ joined_cell self other }
     {
         let c = self.with(other);
-        let s = self.same(c);
         JoinedCell {
             cell: c,
-            changed: !s,
+            changed: self != c,
         }
     }
 

@@ -25,10 +25,7 @@ fn boxed_part(asks: Asks, form: u32) -> bool
 fn returns(acts: Acts) -> bool
     ensures { result ≡ is_return acts }
 {
-    match acts {
-        Acts::Returns => true,
-        _ => false,
-    }
+    acts == Acts::Returns
 }
 
 // What no mode accepts: fewer values than are taken, a boxed field, `Len`, no value to return.
@@ -38,8 +35,8 @@ fn never_proven(v: RowVisit) -> bool
     let ins = v.ins;
     let rule = v.rule;
     let asks = rule.asks;
-    let acts = rule.acts;
-    (v.height < (ins.taken as usize)) | (boxed_part(asks, ins.a) | (returns(acts) & (v.start == 0)))
+    (v.height < (ins.taken as usize))
+        | (boxed_part(asks, ins.a) | (returns(rule.acts) & (v.start == 0)))
 }
 
 // The refusal that a visit meets in the rounds and in validation alike: 13, 14, or 0 for none.

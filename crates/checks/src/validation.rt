@@ -17,11 +17,7 @@ use visit::{RowVisit, constructed_at};
 fn is_proven(c: Check) -> bool
     ensures { result ≡ is_proven c }
 {
-    match c {
-        Check::Unproven => false,
-        Check::Fine => true,
-        Check::Guard(_) => true,
-    }
+    c != Check::Unproven
 }
 
 fn places_proven(s: &[u8], ws: &[u32], t: Tables, v: RowVisit, want: Want) -> bool
@@ -30,12 +26,10 @@ fn places_proven(s: &[u8], ws: &[u32], t: Tables, v: RowVisit, want: Want) -> bo
     ensures { result ≡ all_proven (asked_in s.now ws.now v want) }
 {
     let places = places_asked(v, want);
-    let mut p = places.from;
-    while p < places.end {
+    for p in places.from..places.end {
         if !is_proven(check_place(s, ws, t, v, want, p)) {
             return false;
         }
-        p += 1;
     }
     true
 }
@@ -43,22 +37,13 @@ fn places_proven(s: &[u8], ws: &[u32], t: Tables, v: RowVisit, want: Want) -> bo
 fn is_never(want: Want) -> bool
     ensures { result ≡ is_never want.ask }
 {
-    let ask = want.ask;
-    match ask {
-        Ask::Never => true,
-        _ => false,
-    }
+    want.ask == Ask::Never
 }
 
 fn unbounded(e: Extent) -> bool
     ensures { result ≡ is_unknown e.body }
 {
-    let b = e.body;
-    match b {
-        BodyExtent::Unknown => true,
-        BodyExtent::Absent => false,
-        BodyExtent::Range { min: _, max: _ } => false,
-    }
+    matches!(e.body, BodyExtent::Unknown)
 }
 
 // A flat construction whose operands do not pack within it.

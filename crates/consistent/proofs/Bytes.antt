@@ -3,7 +3,7 @@ use Prim.Native.Nat.{ℕ}
 use mathlib.Core.Path.{◌≡◌, sym, ◌∙◌, ap}
 use mathlib.Core.List.{List}
 use lib.ListN.{length, take}
-use Rattle.answers.specs.declared.Answer.TheVariants.{Accepted}
+use Rattle.answers.specs.Answers.{accepts}
 use Rattle.definition.specs.Module.{module_of}
 use Rattle.definition.specs.Report.{report_bytes}
 use Rattle.definition.specs.Call.{call}
@@ -13,7 +13,7 @@ use Rattle.consistent.specs.Consistent.{Consistent}
 use Rattle.consistent.proofs.Theorem.{consistent}
 use Rattle.consistent.proofs.Accepted.{accepted-left, left-bytes}
 
-module _ (s ws buf : List ℕ) (limit long steps : ℕ) (h : (call s ws buf limit).answer ≡ Accepted long steps) where
+module _ (s ws buf : List ℕ) (limit long steps : ℕ) (h : (call s ws buf limit).answer ≡ accepts long steps) where
   abbrev bytes : List ℕ
   bytes = take long (call s ws buf limit).report
 

@@ -8,7 +8,7 @@ use lib.Dec.{ltb}
 use lib.ListN.{length, get_or, take, length-map, length-take, get_or-eq_default}
 use lib.Seq.{get_or-take}
 use borrow.Author.Tests.{ltb-true, ltb-false}
-use Rattle.definition.specs.declared.Form.TheVariants.{Fine}
+use Rattle.std.proofs.Common.{Ok}
 use Rattle.definition.specs.Module.{Module, Chunk, Line, module_of}
 use Rattle.definition.specs.Leaves.{line_at, no_line}
 use Rattle.definition.specs.Start.{declared_params, first_facts}
@@ -43,7 +43,7 @@ in_code c i e = go (ltb i (length c.code)) refl
         absurd (omega (arith, ap (λ (x : Line). x.instr.op) (get_or-eq_default c.code no_line l)))
 
 -- the lines of a chunk are good
-lines-good : (s : List ℕ) (w : ℕ) → form_of s ≡ Fine w → (c : Chunk) → Memᴰ c (module_of s).chunks → (i : ℕ) → i < length c.code
+lines-good : (s : List ℕ) (w : ℕ) → form_of s ≡ Ok w → (c : Chunk) → Memᴰ c (module_of s).chunks → (i : ℕ) → i < length c.code
     → LineGood (module_of s) c (line_at c i)
 unfolding chunk_no
 lines-good s w h c k i l =
@@ -52,14 +52,14 @@ lines-good s w h c k i l =
     chunk.lines i l
 
 -- THEOREM: a call takes no more than its callee's parameters
-pub calls-fit : (s : List ℕ) (w : ℕ) → form_of s ≡ Fine w → CallsFit (module_of s)
+pub calls-fit : (s : List ℕ) (w : ℕ) → form_of s ≡ Ok w → CallsFit (module_of s)
 calls-fit s w h c k i e =
     let line = lines-good s w h c k i (in_code c i e) in
     let a = inputs-of (module_of s) (line_at c i).instr.a (good-form s w h).signatures (line.callee (call-callee (line_at c i).instr.op e)) in
     omega (arith, a, line.call e)
 
 -- THEOREM: a value is read from a local that the chunk has
-pub locals-fit : (s : List ℕ) (w : ℕ) → form_of s ≡ Fine w → LocalsFit (module_of s)
+pub locals-fit : (s : List ℕ) (w : ℕ) → form_of s ≡ Ok w → LocalsFit (module_of s)
 locals-fit s w h c k i l e =
     let op = (line_at c i).instr.op in
     (lines-good s w h c k i l).local (get_local op (makes-local op e))

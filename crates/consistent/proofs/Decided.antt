@@ -5,9 +5,8 @@ use mathlib.Core.Bool.{Bool, true, false, cond}
 use mathlib.Core.Option.{Option, none, some}
 use mathlib.Core.List.{List}
 use lib.Dec.{leb}
+use Rattle.std.proofs.Common.{Result, Ok, Err}
 use Rattle.answers.specs.Answers.{nowhere}
-use Rattle.definition.specs.declared.Form.{Form}
-use Rattle.definition.specs.declared.Form.TheVariants.{Fine, Refused}
 use Rattle.definition.specs.Machine.{Ran, accepted, refused, Final}
 use Rattle.definition.specs.Module.{Module, module_of}
 use Rattle.definition.specs.State.{State, Facts}
@@ -19,6 +18,7 @@ use Rattle.definition.specs.Call.{analysis_of, run_of, reported, turned, on_ran,
 use Rattle.machine_laws.proofs.Limits.{accepted-same}
 use Rattle.masks.proofs.Both.{never}
 use Rattle.machine_laws.proofs.Bind.{some_inj}
+use Rattle.answers.specs.declared.Refusal.{Refusal}
 
 -- what a run of the module was
 pub record Made (m : Module) (cap limit : ℕ) (r : Report) (n : ℕ) : Type 0 where
@@ -62,7 +62,7 @@ module _ (m : Module) (cap limit : ℕ) (r : Report) (n : ℕ) where
   of-decided h = of-admitted (admitted m m.chunks) refl h
 
 pub of-decide : (s : List ℕ) (words limit : ℕ) (r : Report) (n : ℕ) → decide s words limit ≡ reported r n
-    → (w : ℕ) × (cap : ℕ) × (form_of s ≡ Fine w) × Made (module_of s) cap limit r n
+    → (w : ℕ) × (cap : ℕ) × (form_of s ≡ Ok w) × Made (module_of s) cap limit r n
 unfolding decide on_form
 of-decide s words limit r n h = go (form_of s) refl h
   where
@@ -70,10 +70,10 @@ of-decide s words limit r n h = go (form_of s) refl h
     room w true h = never (cc)
     room w false h = of-decided (module_of s) (words - w) limit r n h
 
-    go : (f : Form) → form_of s ≡ f → on_form s words limit f ≡ reported r n
-        → (w : ℕ) × (cap : ℕ) × (form_of s ≡ Fine w) × Made (module_of s) cap limit r n
-    go (Refused z) e h = never (cc)
-    go (Fine w) e h = (w, words - w, e, room w (leb words w) h)
+    go : (f : Result ℕ Refusal) → form_of s ≡ f → on_form s words limit f ≡ reported r n
+        → (w : ℕ) × (cap : ℕ) × (form_of s ≡ Ok w) × Made (module_of s) cap limit r n
+    go (Err z) e h = never (cc)
+    go (Ok w) e h = (w, words - w, e, room w (leb words w) h)
 
 -- ---- two runs of a module
 same-made : (m : Module) (cap cap' limit limit' : ℕ) (r r' : Report) (n n' : ℕ) → Made m cap limit r n → Made m cap' limit' r' n' → (r ≡ r') × (n ≡ n')

@@ -1,6 +1,7 @@
 -- Demand 3 refuses what is wrong: closed theorems on the reports of specs/Examples.antt. Each clause has a test that it passes, for every report;
 -- a wrong report fails one, by computation. Beside each module stands that the definition accepts it, with the report that the others
 -- differ from.
+use Rattle.std.specs.Prelude.{Option as Maybe, None, Some}
 use Prim.Native.Nat.{ℕ, zero, suc, ◌<◌, ◌≤◌}
 use native.Mathlib.Omega.{arith}
 use mathlib.Core.Path.{◌≡◌, refl, sym, ◌∙◌, ap, ap₂}
@@ -15,8 +16,6 @@ use Rattle.masks.proofs.Both.{both}
 use Rattle.masks.specs.declared.Mask.{Mask}
 use Rattle.masks.specs.Mask.{within}
 use Rattle.masks.specs.Names.{NONE}
-use Rattle.flows.specs.declared.Origin.{Origin}
-use Rattle.flows.specs.declared.Origin.TheVariants.{Nowhere, Local}
 use Rattle.flows.specs.Flow.{join_flow, no_flow, same_origin}
 use Rattle.cells.specs.declared.Cell.{Cell}
 use Rattle.cells.specs.Cell.{join_cell}
@@ -122,24 +121,24 @@ given_is m f (returned n c) h = cell-within (get_or f.results n no_cell) c h.1
 given_is m f (written ns c) h = slots-take m f ns c (λ n k. (h n k).1)
 
 -- ---- locals that are named
-abbrev origin_under : ℕ → Origin → Bool
-origin_under n Nowhere = true
-origin_under n (Local l) = ltb l n
+abbrev origin_under : ℕ → Maybe ℕ → Bool
+origin_under n None = true
+origin_under n (Some l) = ltb l n
 
-origin-is : (n : ℕ) (o : Origin) → NamesLocal (λ l. l < n) o → origin_under n o ≡ true
+origin-is : (n : ℕ) (o : Maybe ℕ) → NamesLocal (λ l. l < n) o → origin_under n o ≡ true
 unfolding NamesLocal
-origin-is n Nowhere h = refl
-origin-is n (Local l) h = lt-ltb l n h
+origin-is n None h = refl
+origin-is n (Some l) h = lt-ltb l n h
 
-abbrev is_nowhere : Origin → Bool
-is_nowhere Nowhere = true
-is_nowhere (Local l) = false
+abbrev is_nowhere : Maybe ℕ → Bool
+is_nowhere None = true
+is_nowhere (Some l) = false
 
 fresh-origin : (x : Cell) (k : Mask) → TakesCell x (fresh_slot k) → is_nowhere x.flow.origin ≡ true
 unfolding join_cell join_flow no_flow
-fresh-origin x k t = go (flat-kept same_origin Nowhere origin-equals x.flow.origin Nowhere (ap (λ (z : Cell). z.flow.origin) t))
+fresh-origin x k t = go (flat-kept same_origin None origin-equals x.flow.origin None (ap (λ (z : Cell). z.flow.origin) t))
   where
-    go : (x.flow.origin ≡ Nowhere) ⊎ (Nowhere ≡ x.flow.origin) → is_nowhere x.flow.origin ≡ true
+    go : (x.flow.origin ≡ None) ⊎ (None ≡ x.flow.origin) → is_nowhere x.flow.origin ≡ true
     go (inl e) = rw e
     go (inr e) = rw (← e)
 

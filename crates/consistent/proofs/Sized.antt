@@ -1,5 +1,6 @@
 -- What leaves a state of its chunk's size is of that size, and so is what takes it in: all locals, a stack of at most D, no local named that
 -- the chunk hasn't.
+use Rattle.std.specs.Prelude.{Option as Maybe, None, Some}
 use Prim.Native.Nat.{ℕ, zero, suc, ◌<◌, ◌≤◌}
 use native.Mathlib.Omega.{arith}
 use mathlib.Core.Path.{◌≡◌, refl, ◌∙◌, ap}
@@ -12,8 +13,6 @@ use lib.ListN.{length, get_or, length-map, length-set, get_or-replicate}
 use Rattle.masks.specs.Names.{ENUM}
 use Rattle.masks.specs.Mask.{has}
 use Rattle.flows.specs.declared.Flow.{Flow}
-use Rattle.flows.specs.declared.Origin.{Origin}
-use Rattle.flows.specs.declared.Origin.TheVariants.{Nowhere, Local}
 use Rattle.flows.specs.declared.Predicate.{Predicate}
 use Rattle.flows.specs.declared.Predicate.TheVariants.{Nothing as Untested}
 use Rattle.flows.specs.Flow.{same_origin, same_predicate, join_flow, no_flow}
@@ -86,7 +85,7 @@ filled-size (suc n) (c ∷ cs) = ap suc (filled-size n cs)
 
 -- ---- what takes in a value names no more than it
 module _ (N : ℕ → Type 0) where
-  local-kept : (o p : Origin) → (o ≡ Nowhere) ⊎ (p ≡ o) → NamesLocal N p → NamesLocal N o
+  local-kept : (o p : Maybe ℕ) → (o ≡ None) ⊎ (p ≡ o) → NamesLocal N p → NamesLocal N o
   unfolding NamesLocal
   local-kept o p (inl e) h = rw e tt
   local-kept o p (inr e) h = rw (← e) h
@@ -112,7 +111,7 @@ module _ {N : ℕ → Type 0} where
   flow-kept x y f t h =
       record {
         four = f;
-        origin = local-kept N x.origin y.origin (flat-kept same_origin Nowhere origin-equals _ _ (ap (λ (z : Flow). z.origin) t)) h.origin;
+        origin = local-kept N x.origin y.origin (flat-kept same_origin None origin-equals _ _ (ap (λ (z : Flow). z.origin) t)) h.origin;
         receiver = receiver-kept N x.predicate y.predicate (flat-kept same_predicate Untested predicate-equals _ _ (ap (λ (z : Flow). z.predicate) t)) h.receiver;
       }
 
@@ -152,7 +151,7 @@ read_under : (n l : ℕ) → l < n → NamesLocal (Under n) (origin_at l)
 unfolding origin_at NamesLocal
 read_under n l h = go (ltb l 65535)
   where
-    go : (b : Bool) → NamesLocal (Under n) (cond b (Local l) Nowhere)
+    go : (b : Bool) → NamesLocal (Under n) (cond b (Some l) None)
     go true = h
     go false = tt
 

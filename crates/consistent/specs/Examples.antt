@@ -1,11 +1,10 @@
 -- Small modules, the report of each as the definition decides on it, and reports that differ from that one in a single thing. Each of the
 -- latter is refused by demand 3, for the clause that its comment names (proofs/Refuses.antt).
-use Rattle.std.specs.Prelude.{ℕ, suc, true, false, List, [], ◌∷◌, ◌++◌, length, get_or, take, drop}
+use Rattle.std.specs.Prelude.{ℕ, suc, true, false, List, [], ◌∷◌, ◌++◌, length, get_or, take, drop, Some}
 use Rattle.std.proofs.Math.Option.{none}
 use Rattle.masks.specs.declared.Mask.{Mask}
 use Rattle.masks.specs.Names.{NONE, TRUE}
 use Rattle.widths.specs.declared.Shape.{Shape}
-use Rattle.flows.specs.declared.Origin.TheVariants.{Local}
 use Rattle.cells.specs.declared.Cell.{Cell}
 use Rattle.cells.specs.Cell.{made, declared, unit_cell}
 use Rattle.definition.specs.Module.{Module, Chunk, Line, Native}
@@ -129,7 +128,7 @@ abbrev pub too_wide : Report
 too_wide = with_extra (extra [] (unit_cell ∷ unit_cell ∷ []))
 
 abbrev pub other_local : Report
-other_local = with_extra (extra (with_origin unit_cell (Local 1) ∷ []) (unit_cell ∷ []))
+other_local = with_extra (extra (with_origin unit_cell (Some 1) ∷ []) (unit_cell ∷ []))
 
 -- a guard that doesn't follow, at the first instruction
 abbrev pub no_record : Record
@@ -228,7 +227,7 @@ unwritten = with_slot (fresh_slot NONE)
 
 -- a private fact that names a local
 abbrev pub named_slot : Report
-named_slot = with_slot (with_origin (get_or (right writes).slots 0 unit_cell) (Local 0))
+named_slot = with_slot (with_origin (get_or (right writes).slots 0 unit_cell) (Some 0))
 
 -- ---- an inspection that always says false, and a test of what it says
 abbrev pub deciding : Chunk

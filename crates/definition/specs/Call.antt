@@ -5,15 +5,11 @@
 -- types.rs has none of these. Readings of docs/DECISIONS.md: B9 no reachable chunk, C4 what a refusal leaves, D1 heights, D2 panics.
 -- Nothing is left open: there is one outcome for each choice of arguments. Nothing here recurs; the run ends, since `run` counts the limit
 -- down.
-use Rattle.std.specs.Prelude.{ℕ, ◌-◌, cond, List, ◌++◌, ltb, leb, length, drop, replicate}
+use Rattle.std.specs.Prelude.{ℕ, ◌-◌, cond, List, ◌++◌, ltb, leb, length, drop, replicate, Result, Ok, Err}
 use Rattle.std.proofs.Math.Option.{Option, none, some}
 use Rattle.answers.specs.declared.Refusal.{Refusal}
-use Rattle.answers.specs.declared.Answer.{Answer}
-use Rattle.answers.specs.declared.Answer.TheVariants.{Accepted, Refused}
-use Rattle.answers.specs.Answers.{nowhere, refusal}
-use Rattle.definition.specs.declared.Form.{Form}
-use Rattle.definition.specs.declared.Form.TheVariants.{Fine}
-use Rattle.definition.specs.declared.Form.TheVariants.{Refused as Malformed}
+use Rattle.answers.specs.Answers.{nowhere, refusal, accepts}
+use Rattle.answers.specs.declared.Accepted.{Accepted}
 use Rattle.definition.specs.Machine.{Ran, accepted, refused, Analysis, check}
 use Rattle.definition.specs.Module.{Module, Chunk, module_of}
 use Rattle.definition.specs.State.{State, Facts, Live, Gift, join}
@@ -74,16 +70,16 @@ unfoldable pub decided : Module → ℕ → ℕ → Decided
 decided m cap limit = on_admitted m cap limit (admitted m m.chunks)
 
 -- 1 to 5 come before
-unfoldable pub on_form : List ℕ → ℕ → ℕ → Form → Decided
-on_form s words limit (Malformed r) = turned r
-on_form s words limit (Fine w) = cond (leb words w) (turned (nowhere 5 0)) (decided (module_of s) (words - w) limit)
+unfoldable pub on_form : List ℕ → ℕ → ℕ → Result ℕ Refusal → Decided
+on_form s words limit (Err r) = turned r
+on_form s words limit (Ok w) = cond (leb words w) (turned (nowhere 5 0)) (decided (module_of s) (words - w) limit)
 
 unfoldable pub decide : List ℕ → ℕ → ℕ → Decided
 decide s words limit = on_form s words limit (form_of s)
 
 -- ---- what the call leaves
 pub record Outcome : Type 0 where
-  pub answer : Answer
+  pub answer : Result Accepted Refusal
   pub report : List ℕ
   pub workspace : List ℕ
 
@@ -92,14 +88,14 @@ unfoldable pub left_words : ℕ → List ℕ → List ℕ
 left_words n ws = cond (ltb n 6) ws (replicate (length ws) 0)
 
 unfoldable pub turned_back : Refusal → List ℕ → List ℕ → Outcome
-turned_back r ws buf = record { answer = Refused r; report = buf; workspace = left_words r.number ws }
+turned_back r ws buf = record { answer = Err r; report = buf; workspace = left_words r.number ws }
 
 -- 6: the report is too long for its buffer; the bytes past a report stay
 unfoldable pub delivered : List ℕ → ℕ → List ℕ → List ℕ → Outcome
 delivered bytes steps ws buf =
     cond (ltb (length buf) (length bytes)) (turned_back (nowhere 6 steps) ws buf)
     (record {
-      answer = Accepted (length bytes) steps;
+      answer = accepts (length bytes) steps;
       report = bytes ++ drop (length bytes) buf;
       workspace = replicate (length ws) 0;
     })

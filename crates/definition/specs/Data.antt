@@ -9,8 +9,6 @@ use Rattle.widths.specs.Width.{join_width, scalar_width}
 use Rattle.extents.specs.declared.Extent.{Extent}
 use Rattle.extents.specs.Extent.{join_extent, exact_width}
 use Rattle.flows.specs.declared.Flow.{Flow}
-use Rattle.flows.specs.declared.Owned.{Owned}
-use Rattle.flows.specs.declared.Owned.TheVariants.{No}
 use Rattle.flows.specs.Flow.{join_flow, new_flow, no_flow, absent}
 use Rattle.cells.specs.declared.Cell.{Cell}
 use Rattle.description.specs.declared.Instr.{Instr}
@@ -88,7 +86,7 @@ private_cell k w =
       flow = w;
     }
 
-unfoldable pub fresh : Mask → Width → Owned → Cell
+unfoldable pub fresh : Mask → Width → Bool → Cell
 fresh k w o = record { mask = k; width = w; flow = new_flow k w o }
 
 -- what a read of these slots gives, the first of them n
@@ -96,7 +94,7 @@ unfoldable pub read_slots : Module → Facts → ℕ → List ℕ → Cell
 read_slots m f n ns =
     cond (is_body m n)
     (private_cell (kinds_in m f NONE ns) (flow_in f no_flow ns))
-    (fresh (kinds_in m f NONE ns) (width_in m f (data_width m f n) ns) No)
+    (fresh (kinds_in m f NONE ns) (width_in m f (data_width m f n) ns) false)
 
 -- what a slot takes: a body's any packed kind, a private scalar's any scalar, a shared one's its own
 unfoldable pub slot_allows : Module → Facts → ℕ → Mask

@@ -7,7 +7,7 @@
 -- that W is document 01's sum, is a theorem: `good-form` (form_laws). Left open: bytes that no rule reads (D12) may have any value.
 -- How it ends: `fields_from` (description/specs/Fields.antt) is the list of the fields, no longer than the description; the walks go along
 -- it, the others count down.
-use Rattle.std.specs.Prelude.{ℕ, zero, suc, ◌+◌, ◌*◌, ◌-◌, Bool, true, false, not, cond, ◌&&◌, ◌||◌, List, [], ◌∷◌, eqb, ltb, leb, length, get_or}
+use Rattle.std.specs.Prelude.{ℕ, zero, suc, ◌+◌, ◌*◌, ◌-◌, Bool, true, false, not, cond, ◌&&◌, ◌||◌, List, [], ◌∷◌, eqb, ltb, leb, length, get_or, Result, Ok, Err}
 use Rattle.le.specs.Le.{at8}
 use Rattle.answers.specs.declared.Refusal.{Refusal}
 use Rattle.answers.specs.Answers.{nowhere, in_field, refusal}
@@ -17,10 +17,6 @@ use Rattle.description.specs.declared.ChunkHead.{ChunkHead}
 use Rattle.description.specs.declared.Instr.{Instr}
 use Rattle.description.specs.Fields.{tag_at, len_at, next_at, fields_from, of_tag, shape_of, header_of, chunk_of, tags_at, params_at, params_of, instr_of, has_site}
 use Rattle.definition.specs.declared.Scan.{Scan}
-use Rattle.definition.specs.declared.ScanStep.{ScanStep}
-use Rattle.definition.specs.declared.ScanStep.TheVariants.{Go, Stop}
-use Rattle.definition.specs.declared.Form.{Form}
-use Rattle.definition.specs.declared.Form.TheVariants.{Fine, Refused}
 use Rattle.definition.specs.Module.{signed_params}
 use Rattle.definition.specs.Bounds.{most_bytes, most_float, most_chunks, most_slots, most_locals, most_stack, most_arity, most_tags, most_params, most_instrs, most_taken, most_given, most_scalar_kind, most_composite_kind, most_operand, most_immediate, most_natives, most_fields}
 use Rattle.ops.specs.Numbers.{op_call, op_yield}
@@ -242,8 +238,8 @@ table_fault s p tag due len count =
     (lowest (not due || not (eqb len 2) || ltb 11 (at8 s (p + 3)) || ltb 1 (at8 s (p + 4))) (leb most_fields count) false false)))
 
 -- ---- the walk
-abbrev pub or_stop : ℕ → Refusal → Scan → ScanStep
-or_stop n r t = cond (eqb n 0) (Go t) (Stop r)
+abbrev pub or_stop : ℕ → Refusal → Scan → Result Scan Refusal
+or_stop n r t = cond (eqb n 0) (Ok t) (Err r)
 
 -- past a field, the scan: its tag, and what it counts
 abbrev pub past_header : Header → Scan
@@ -261,7 +257,7 @@ past_header h =
       cells = 4 + h.slots;
     }
 
-unfoldable pub header_step : List ℕ → ℕ → Scan → ScanStep
+unfoldable pub header_step : List ℕ → ℕ → Scan → Result Scan Refusal
 header_step s p t =
     let h = header_of s p in
     let n = header_fault (eqb t.place 0) (len_at s p) h in
@@ -282,7 +278,7 @@ past_chunk h params t =
       cells = t.cells + params + 2;
     }
 
-unfoldable pub chunk_step : List ℕ → ℕ → Scan → ScanStep
+unfoldable pub chunk_step : List ℕ → ℕ → Scan → Result Scan Refusal
 chunk_step s p t =
     let h = chunk_of s p in
     let signed = ltb t.seen t.signatures in
@@ -304,7 +300,7 @@ past_instr t =
       cells = t.cells + t.locals + t.stack + 6;
     }
 
-unfoldable pub instr_step : List ℕ → ℕ → Scan → ScanStep
+unfoldable pub instr_step : List ℕ → ℕ → Scan → Result Scan Refusal
 instr_step s p t =
     let n = instr_fault (ltb 1 t.place && ltb t.place 5) (len_at s p) (instr_of s p) t in
     or_stop n (in_field n (t.seen - 1) t.instrs) (past_instr t)
@@ -324,7 +320,7 @@ placed tag count t =
       cells = t.cells;
     }
 
-unfoldable pub site_step : List ℕ → ℕ → Scan → ScanStep
+unfoldable pub site_step : List ℕ → ℕ → Scan → Result Scan Refusal
 site_step s p t =
     let n = site_fault s p (eqb t.place 3) (len_at s p) in
     or_stop n (nowhere n 0) (placed 4 t.count t)
@@ -333,21 +329,21 @@ site_step s p t =
 unfoldable pub so_far : Scan → ℕ → ℕ
 so_far t tag = cond (eqb t.place tag) t.count 0
 
-unfoldable pub table_step : List ℕ → ℕ → ℕ → Scan → ScanStep
+unfoldable pub table_step : List ℕ → ℕ → ℕ → Scan → Result Scan Refusal
 table_step s p tag t =
     let n = table_fault s p tag (ltb 0 t.place && leb t.place tag && (eqb tag 5 || eqb t.layout 1)) (len_at s p) (so_far t tag) in
     or_stop n (nowhere n 0) (placed tag (so_far t tag + 1) t)
 
 -- a field that doesn't fit the description is 1, its contents are not looked at
-unfoldable pub field_step : List ℕ → ℕ → Scan → ScanStep
+unfoldable pub field_step : List ℕ → ℕ → Scan → Result Scan Refusal
 field_step s p t =
-    cond (ltb (length s) (next_at s p)) (Stop (nowhere 1 0))
+    cond (ltb (length s) (next_at s p)) (Err (nowhere 1 0))
     (cond (eqb (tag_at s p) 1) (header_step s p t)
     (cond (eqb (tag_at s p) 2) (chunk_step s p t)
     (cond (eqb (tag_at s p) 3) (instr_step s p t)
     (cond (eqb (tag_at s p) 4) (site_step s p t)
     (cond (ltb 4 (tag_at s p) && ltb (tag_at s p) 9) (table_step s p (tag_at s p) t)
-    (Stop (nowhere 1 0)))))))
+    (Err (nowhere 1 0)))))))
 
 -- ---- the late looks
 -- the parameter shapes of each chunk with a signature
@@ -371,20 +367,20 @@ late_look s params c i (p ∷ ps) =
     (late_look s params c i ps))
 
 -- ---- the whole
-unfoldable pub after_look : Refusal → ℕ → Form
-after_look r w = cond (eqb r.number 0) (Fine w) (Refused r)
+unfoldable pub after_look : Refusal → ℕ → Result ℕ Refusal
+after_look r w = cond (eqb r.number 0) (Ok w) (Err r)
 
 -- no header, or a chunk missing, is 1
-unfoldable pub finished : List ℕ → Scan → Form
+unfoldable pub finished : List ℕ → Scan → Result ℕ Refusal
 finished s t =
-    cond (eqb t.place 0 || ltb t.seen t.chunks) (Refused (nowhere 1 0))
+    cond (eqb t.place 0 || ltb t.seen t.chunks) (Err (nowhere 1 0))
     (after_look (late_look s (parameters s t.signatures (of_tag 2 s (fields_from s 0))) 0 0 (fields_from s 0)) (16 * t.cells))
 
-unfoldable pub on_step : ScanStep → (Scan → Form) → Form
-on_step (Go t) k = k t
-on_step (Stop r) k = Refused r
+unfoldable pub on_step : Result Scan Refusal → (Scan → Result ℕ Refusal) → Result ℕ Refusal
+on_step (Ok t) k = k t
+on_step (Err r) k = Err r
 
-unfoldable pub scan_from : List ℕ → List ℕ → Scan → Form
+unfoldable pub scan_from : List ℕ → List ℕ → Scan → Result ℕ Refusal
 scan_from s [] t = finished s t
 scan_from s (p ∷ ps) t = on_step (field_step s p t) (λ u. scan_from s ps u)
 
@@ -393,5 +389,5 @@ unscanned =
     record { place = 0; chunks = 0; signatures = 0; layout = 0; seen = 0; locals = 0; stack = 0; instrs = 0; count = 0; cells = 0 }
 
 -- W of a description of good form, or the refusal; its length is looked at first
-unfoldable pub form_of : List ℕ → Form
-form_of s = cond (ltb most_bytes (length s)) (Refused (nowhere 2 0)) (scan_from s (fields_from s 0) unscanned)
+unfoldable pub form_of : List ℕ → Result ℕ Refusal
+form_of s = cond (ltb most_bytes (length s)) (Err (nowhere 2 0)) (scan_from s (fields_from s 0) unscanned)

@@ -7,15 +7,13 @@
 -- given. Readings: B2 the height is held against D at every instruction, D1 types.rs has no D, D3 requirements are tested at every taking,
 -- D4 facts keep what an early round gave.
 -- Nothing is left open. Recursion goes along lists (the slots of a write, masks).
-use Rattle.std.specs.Prelude.{ℕ, zero, suc, ◌-◌, Bool, true, false, not, cond, ◌&&◌, ◌||◌, List, [], ◌∷◌, map, eqb, ltb, leb, length, get_or, set, take, drop}
+use Rattle.std.specs.Prelude.{ℕ, zero, suc, ◌-◌, Bool, true, false, not, cond, ◌&&◌, ◌||◌, List, [], ◌∷◌, map, eqb, ltb, leb, length, get_or, set, take, drop, None}
 use Rattle.std.proofs.Math.Option.{none}
 use Rattle.masks.specs.declared.Mask.{Mask}
 use Rattle.masks.specs.Mask.{union}
 use Rattle.masks.specs.Mask.{same as same_mask}
 use Rattle.masks.specs.Names.{NONE}
 use Rattle.flows.specs.declared.Flow.{Flow}
-use Rattle.flows.specs.declared.Owned.TheVariants.{No}
-use Rattle.flows.specs.declared.Origin.TheVariants.{Nowhere}
 use Rattle.flows.specs.declared.Predicate.TheVariants.{Nothing as Untested}
 use Rattle.flows.specs.Flow.{join_flow, same_flow, no_flow}
 use Rattle.cells.specs.declared.Cell.{Cell}
@@ -146,7 +144,7 @@ moved_at j same d l n x = not (same (get_or l n d) (j (get_or l n d) x))
 
 -- a private slot keeps a flow without origin and predicate, not owned
 unfoldable pub stored_flow : Flow → Flow
-stored_flow w = record { bodies = w.bodies; owned = No; origin = Nowhere; predicate = Untested }
+stored_flow w = record { bodies = w.bodies; owned = false; origin = None; predicate = Untested }
 
 unfoldable pub with_flows : Live → List Flow → Bool → Live
 with_flows f ws moved =

@@ -7,7 +7,7 @@
 -- Snapshot. Left out: the pool arithmetic of `data_width`, which no outcome shows (D12). An origin past 65534 is none, since 65535 says
 -- none in a report. Differs from types.rs by document 02, Two: a body packs a handle with the header's size, there with 8 (line 195).
 -- Nothing is left open. Recursion goes along lists (operands, natives).
-use Rattle.std.specs.Prelude.{ℕ, zero, suc, ◌-◌, ◌%◌, Bool, true, false, cond, ◌&&◌, List, [], ◌∷◌, eqb, ltb, get_or}
+use Rattle.std.specs.Prelude.{ℕ, zero, suc, ◌-◌, ◌%◌, Bool, true, false, cond, ◌&&◌, List, [], ◌∷◌, eqb, ltb, get_or, Option as Maybe, None, Some}
 use Rattle.std.proofs.Math.Option.{Option, none, some}
 use Rattle.masks.specs.declared.Mask.{Mask}
 use Rattle.masks.specs.Mask.{of, scalar, body, kind, union, common, has, same, one_kind, constant, immediate}
@@ -16,10 +16,6 @@ use Rattle.widths.specs.declared.Width.TheVariants.{Body}
 use Rattle.widths.specs.declared.Shape.{Shape}
 use Rattle.widths.specs.Shape.{shape_mask, declared_width}
 use Rattle.extents.specs.declared.Extent.{Extent}
-use Rattle.flows.specs.declared.Owned.{Owned}
-use Rattle.flows.specs.declared.Owned.TheVariants.{No, Yes}
-use Rattle.flows.specs.declared.Origin.{Origin}
-use Rattle.flows.specs.declared.Origin.TheVariants.{Nowhere, Local}
 use Rattle.flows.specs.declared.Predicate.{Predicate}
 use Rattle.flows.specs.declared.Predicate.TheVariants.{Nothing as Untested, Tests}
 use Rattle.flows.specs.Flow.{negated}
@@ -93,7 +89,7 @@ with_predicate c p =
       flow = record { bodies = c.flow.bodies; owned = c.flow.owned; origin = c.flow.origin; predicate = p };
     }
 
-unfoldable pub with_origin : Cell → Origin → Cell
+unfoldable pub with_origin : Cell → Maybe ℕ → Cell
 with_origin c o =
     record {
       mask = c.mask;
@@ -102,25 +98,25 @@ with_origin c o =
     }
 
 -- a value read from this local; 65535 is no local
-unfoldable pub origin_at : ℕ → Origin
-origin_at l = cond (ltb l 65535) (Local l) Nowhere
+unfoldable pub origin_at : ℕ → Maybe ℕ
+origin_at l = cond (ltb l 65535) (Some l) None
 
 -- `Const`: a composite that is copied into a site has its packed length
 unfoldable pub constant_cell : Instr → ℕ → Cell
 constant_cell i float =
     cond (eqb i.c 0)
     (made (constant (i.a % 256) (eqb i.b 1)) float)
-    (fresh (constant (i.a % 256) (eqb i.b 1)) (Body (i.c - 1)) No)
+    (fresh (constant (i.a % 256) (eqb i.b 1)) (Body (i.c - 1)) false)
 
 -- field and index reads; owned: of the composite that is read
-unfoldable pub field_cell : Instr → Owned → ℕ → Cell
+unfoldable pub field_cell : Instr → Bool → ℕ → Cell
 field_cell i o float =
     cond (eqb i.a 0) (made (scalar (i.b % 256)) float)
     (cond (eqb i.a 1) (fresh (body (i.b % 256)) (Body i.c) o)
     (made UNKNOWN float))
 
-unfoldable pub owned_if : Bool → Owned
-owned_if b = cond b Yes No
+unfoldable pub owned_if : Bool → Bool
+owned_if b = b
 
 unfoldable pub native_cell : Option NativeReturn → ℕ → Cell
 native_cell none float = made UNKNOWN float
@@ -176,9 +172,9 @@ unfoldable pub inspection : Mask → Mask → Mask
 inspection m k = cond (eqb m.bits 0) NONE (cond (has m k) BOOL FALSE)
 
 -- a test for ENUM of a value with an origin remembers the local
-unfoldable pub predicate_on : Mask → Origin → Predicate
-predicate_on k Nowhere = Untested
-predicate_on k (Local l) = cond (same k ENUM) (Tests l true) Untested
+unfoldable pub predicate_on : Mask → Maybe ℕ → Predicate
+predicate_on k None = Untested
+predicate_on k (Some l) = cond (same k ENUM) (Tests l true) Untested
 
 unfoldable pub tested : Mask → Cell → ℕ → Cell
 tested k c float = with_predicate (made (inspection c.mask k) float) (predicate_on k c.flow.origin)
@@ -232,7 +228,7 @@ sets l c = some (record { local = l; cell = c })
 -- the streaming entry's first local is the reply after a `Yield`, and may be any reply after a call of a chunk that suspends
 unfoldable pub setting : Visit → Acts → Option Setting
 setting v Still = none
-setting v SetsLocal = sets ((instr v).a % 65536) (with_origin (invalidated_cell (arg v 0) ((instr v).a % 65536)) Nowhere)
+setting v SetsLocal = sets ((instr v).a % 65536) (with_origin (invalidated_cell (arg v 0) ((instr v).a % 65536)) None)
 setting v Yields = cond v.streams (sets 0 (reply_cell v.line.site)) none
 setting v Calls =
     cond (v.streams && get_or v.suspends (instr v).a false)

@@ -7,7 +7,7 @@
 -- absent parts, D5 a guard of mask 0 is listed. Of document 02: One, the order of a record's guards (`guards_rise`); that they stand in it is a
 -- theorem, `guards-rise` (proofs/Guards.antt).
 -- Nothing is left open: one report for each run. Recursion goes along lists.
-use Rattle.std.specs.Prelude.{ℕ, suc, ◌≤◌, Bool, true, false, not, cond, ◌&&◌, ◌||◌, List, [], ◌∷◌, ◌++◌, eqb, ltb, length, get_or}
+use Rattle.std.specs.Prelude.{ℕ, suc, ◌≤◌, Bool, true, false, not, cond, ◌&&◌, ◌||◌, List, [], ◌∷◌, ◌++◌, eqb, ltb, length, get_or, Option as Maybe, None, Some}
 use Rattle.std.proofs.Math.Option.{Option, none, some}
 use Rattle.le.specs.Le.{le16, le32}
 use Rattle.masks.specs.declared.Mask.{Mask}
@@ -19,10 +19,6 @@ use Rattle.extents.specs.declared.BodyExtent.{BodyExtent}
 use Rattle.extents.specs.declared.BodyExtent.TheVariants.{Absent, Range, Unknown}
 use Rattle.extents.specs.declared.Extent.{Extent}
 use Rattle.flows.specs.declared.Flow.{Flow}
-use Rattle.flows.specs.declared.Owned.{Owned}
-use Rattle.flows.specs.declared.Owned.TheVariants.{No, Yes}
-use Rattle.flows.specs.declared.Origin.{Origin}
-use Rattle.flows.specs.declared.Origin.TheVariants.{Nowhere, Local}
 use Rattle.flows.specs.declared.Predicate.{Predicate}
 use Rattle.flows.specs.declared.Predicate.TheVariants.{Nothing as Untested, Tests}
 use Rattle.flows.specs.Flow.{no_flow}
@@ -198,13 +194,13 @@ body_bytes Absent = range_bytes 0 0 0
 body_bytes (Range a b) = range_bytes 1 a b
 body_bytes Unknown = range_bytes 2 0 0
 
-unfoldable pub owned_byte : Owned → ℕ
-owned_byte No = 0
-owned_byte Yes = 1
+unfoldable pub owned_byte : Bool → ℕ
+owned_byte false = 0
+owned_byte true = 1
 
-unfoldable pub origin_number : Origin → ℕ
-origin_number Nowhere = 65535
-origin_number (Local l) = l
+unfoldable pub origin_number : Maybe ℕ → ℕ
+origin_number None = 65535
+origin_number (Some l) = l
 
 unfoldable pub receiver_number : Predicate → ℕ
 receiver_number Untested = 65535

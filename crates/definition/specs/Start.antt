@@ -1,13 +1,11 @@
 -- Before the rounds: refusals 9 to 12, the declared facts, the reply, which chunks suspend; what a chunk begins with, and what follows its validation.
-use Rattle.std.specs.Prelude.{ℕ, zero, suc, ◌+◌, ◌-◌, Bool, true, false, not, cond, ◌&&◌, ◌||◌, List, [], ◌∷◌, map, eqb, ltb, leb, length, get_or, set, take, replicate}
+use Rattle.std.specs.Prelude.{ℕ, zero, suc, ◌+◌, ◌-◌, Bool, true, false, not, cond, ◌&&◌, ◌||◌, List, [], ◌∷◌, map, eqb, ltb, leb, length, get_or, set, take, replicate, Option as Maybe, None, Some}
 use Rattle.std.proofs.Math.Option.{Option, none, some}
 use Rattle.masks.specs.declared.Mask.{Mask}
 use Rattle.masks.specs.Mask.{has, same}
 use Rattle.masks.specs.Names.{NONE, UNIT, BYTE, WORD, FIXED, FLOAT, TEXT, STRUCT, ENUM, BOOL, UNKNOWN}
 use Rattle.widths.specs.declared.Shape.{Shape}
 use Rattle.widths.specs.Shape.{shape_mask}
-use Rattle.extents.specs.declared.Size.{Size}
-use Rattle.extents.specs.declared.Size.TheVariants.{Nothing, Bytes}
 use Rattle.flows.specs.Flow.{no_flow, maximum_of, absent}
 use Rattle.extents.specs.Extent.{extent_minimum}
 use Rattle.cells.specs.declared.Cell.{Cell}
@@ -84,9 +82,9 @@ unfoldable pub reply_cell : Module → Facts → Cell
 reply_cell m f = replies m (first_reply (get_or f.inputs m.entry [])) m.chunks
 
 -- 11: no bound
-unfoldable pub bounded : Size → Option ℕ
-bounded Nothing = none
-bounded (Bytes n) = some n
+unfoldable pub bounded : Maybe ℕ → Option ℕ
+bounded None = none
+bounded (Some n) = some n
 
 -- the largest body of a reply, if there is one
 unfoldable pub reply_maximum : Cell → Option ℕ
@@ -137,9 +135,9 @@ last [] = no_cell
 last (c ∷ []) = c
 last (c ∷ d ∷ cs) = last (d ∷ cs)
 
-unfoldable pub under_eight : Size → Bool
-under_eight Nothing = true
-under_eight (Bytes n) = ltb n 8
+unfoldable pub under_eight : Maybe ℕ → Bool
+under_eight None = true
+under_eight (Some n) = ltb n 8
 
 -- an inspection for ENUM needs a discriminant, one for STRUCT a receiver that is nothing else
 unfoldable pub inspection_fault : Others → Cell → ℕ

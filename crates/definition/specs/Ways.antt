@@ -6,14 +6,12 @@
 -- two equal ways, and narrows or cuts both. Reading, what types.rs does: D8 narrowing keeps the other extents.
 -- Left open: whether a target lies in the chunk. Targets past the end stand in the list too; the machine drops them (`put_in` in
 -- Machine.antt), as types.rs does at 1267, after the narrowing. Recursion goes along lists (ways, cells).
-use Rattle.std.specs.Prelude.{ℕ, suc, Bool, true, false, not, cond, List, [], ◌∷◌, ◌++◌, map, eqb, get_or, set}
+use Rattle.std.specs.Prelude.{ℕ, suc, Bool, true, false, not, cond, List, [], ◌∷◌, ◌++◌, map, eqb, get_or, set, Option as Maybe, None, Some}
 use Rattle.std.proofs.Math.Option.{Option, none, some}
 use Rattle.masks.specs.declared.Mask.{Mask}
 use Rattle.masks.specs.Mask.{has}
 use Rattle.masks.specs.Mask.{same as same_mask}
 use Rattle.masks.specs.Names.{FALSE, TRUE, ENUM}
-use Rattle.flows.specs.declared.Origin.{Origin}
-use Rattle.flows.specs.declared.Origin.TheVariants.{Nowhere, Local}
 use Rattle.flows.specs.declared.Predicate.{Predicate}
 use Rattle.flows.specs.declared.Predicate.TheVariants.{Nothing as Untested, Tests}
 use Rattle.flows.specs.Flow.{same_bool}
@@ -67,9 +65,9 @@ narrowing Ifs p target to = receiver_on p (not (eqb to target))
 narrowing Breaks p target to = receiver_on p (eqb to target)
 narrowing Restarts p target to = none
 
-unfoldable pub is_from : Origin → ℕ → Bool
-is_from Nowhere r = false
-is_from (Local l) r = eqb l r
+unfoldable pub is_from : Maybe ℕ → ℕ → Bool
+is_from None r = false
+is_from (Some l) r = eqb l r
 
 -- a stack cell that still equals the receiver is narrowed with it
 unfoldable pub narrow_stack : ℕ → Cell → Cell

@@ -6,7 +6,6 @@ ghost use Rattle.std.specs.Prelude.{◌≡◌, ◌<◌, ◌^◌};
 ghost use Rattle.definition.specs.Module.{signed_params};
 ghost use Rattle.definition.specs.Outputs.{output};
 
-use answers::Refusal;
 use cells::Cell;
 use description::params_of;
 use masks::Mask;
@@ -20,7 +19,7 @@ pub struct Made {
 }
 
 // Which operands validation asks for.
-#[derive(Clone, Copy)]
+#[derive(Clone, Copy, PartialEq, Eq)]
 pub enum Ask {
     Nothing,
     First,
@@ -33,7 +32,7 @@ pub enum Ask {
 }
 
 // The operands asked for, with the kinds that the first (or each) and the second may be of.
-#[derive(Clone, Copy)]
+#[derive(Clone, Copy, PartialEq, Eq)]
 pub struct Want {
     pub ask: Ask,
     pub first: Mask,
@@ -41,7 +40,7 @@ pub struct Want {
 }
 
 // What a requirement finds: fine, fine behind a guard, or not proven.
-#[derive(Clone, Copy)]
+#[derive(Clone, Copy, PartialEq, Eq)]
 pub enum Check {
     Fine,
     Guard(Mask),
@@ -62,19 +61,6 @@ pub struct Scan {
     pub instrs: u32,
     pub count: u32,
     pub cells: u64,
-}
-
-#[derive(Clone, Copy)]
-pub enum ScanStep {
-    Go(Scan),
-    Stop(Refusal),
-}
-
-// A description of good form, with its number of workspace words W, or the refusal.
-#[derive(Clone, Copy)]
-pub enum Form {
-    Fine(u64),
-    Refused(Refusal),
 }
 
 // The output k of an instruction.

@@ -1,13 +1,11 @@
 -- Body extents, as `BodyExtent` of types.rs: join, minimum, exact.
-use Rattle.std.specs.Prelude.{min, max, Bool, true, false, cond, not, ◌&&◌, List, [], ◌∷◌, eqb}
+use Rattle.std.specs.Prelude.{min, max, Bool, true, false, cond, not, ◌&&◌, List, [], ◌∷◌, eqb, ℕ, Option, None, Some}
 use Rattle.widths.specs.declared.Width.{Width}
 use Rattle.widths.specs.declared.Width.TheVariants.{Unknown as Wide, Body}
 use Rattle.extents.specs.declared.BodyExtent.{BodyExtent}
 use Rattle.extents.specs.declared.BodyExtent.TheVariants.{Absent, Range, Unknown}
 use Rattle.extents.specs.declared.Extent.{Extent}
 use Rattle.extents.specs.declared.JoinedExtent.{JoinedExtent}
-use Rattle.extents.specs.declared.Size.{Size}
-use Rattle.extents.specs.declared.Size.TheVariants.{Nothing, Bytes}
 
 -- Absent is neutral, ranges span, Unknown absorbs
 abbrev pub join_body : BodyExtent → BodyExtent → BodyExtent
@@ -37,26 +35,26 @@ same_extent x y = same_body x.body y.body
 abbrev pub joined_extent : Extent → Extent → JoinedExtent
 joined_extent x y = record { extent = join_extent x y; changed = not (same_extent x (join_extent x y)) }
 
-abbrev pub minimum_body : BodyExtent → Size
-minimum_body Absent = Nothing
-minimum_body (Range a b) = Bytes a
-minimum_body Unknown = Nothing
+abbrev pub minimum_body : BodyExtent → Option ℕ
+minimum_body Absent = None
+minimum_body (Range a b) = Some a
+minimum_body Unknown = None
 
-abbrev pub extent_minimum : Extent → Size
+abbrev pub extent_minimum : Extent → Option ℕ
 extent_minimum x = minimum_body x.body
 
 -- the size, where the range is one number
-abbrev pub exact_body : BodyExtent → Size
-exact_body Absent = Nothing
-exact_body (Range a b) = cond (eqb a b) (Bytes a) Nothing
-exact_body Unknown = Nothing
+abbrev pub exact_body : BodyExtent → Option ℕ
+exact_body Absent = None
+exact_body (Range a b) = cond (eqb a b) (Some a) None
+exact_body Unknown = None
 
-abbrev pub extent_exact : Extent → Size
+abbrev pub extent_exact : Extent → Option ℕ
 extent_exact x = exact_body x.body
 
-abbrev pub width_of_size : Size → Width
-width_of_size Nothing = Wide
-width_of_size (Bytes n) = Body n
+abbrev pub width_of_size : Option ℕ → Width
+width_of_size None = Wide
+width_of_size (Some n) = Body n
 
 -- the width of a body that has this extent
 abbrev pub exact_width : Extent → Width

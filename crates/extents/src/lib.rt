@@ -3,21 +3,21 @@
 
 mod bodies;
 
-ghost use Rattle.std.specs.Prelude.{◌≡◌, min, max};
-ghost use Rattle.extents.specs.Extent.{join_body, same_body, join_extent, same_extent, joined_extent, extent_minimum, extent_exact, exact_width};
+ghost use Rattle.std.specs.Prelude.{◌≡◌};
+ghost use Rattle.extents.specs.Extent.{join_body, join_extent, joined_extent, extent_minimum, extent_exact, exact_width};
 
-pub use bodies::{join_bodies, same_bodies};
+pub use bodies::join_bodies;
 use widths::Width;
 
 // The size range of a body of one kind.
-#[derive(Clone, Copy)]
+#[derive(Clone, Copy, PartialEq, Eq)]
 pub enum BodyExtent {
     Absent,
     Range { min: u32, max: u32 },
     Unknown,
 }
 
-#[derive(Clone, Copy)]
+#[derive(Clone, Copy, PartialEq, Eq)]
 pub struct Extent {
     pub body: BodyExtent,
 }
@@ -26,25 +26,6 @@ pub struct Extent {
 pub struct JoinedExtent {
     pub extent: Extent,
     pub changed: bool,
-}
-
-// A size that may be missing.
-#[derive(Clone, Copy)]
-pub enum Size {
-    Nothing,
-    Bytes(u32),
-}
-
-pub fn least(a: u32, b: u32) -> u32
-    ensures { result ≡ min a b }
-{
-    if a < b { a } else { b }
-}
-
-pub fn most(a: u32, b: u32) -> u32
-    ensures { result ≡ max a b }
-{
-    if a < b { b } else { a }
 }
 
 impl BodyExtent {
@@ -58,31 +39,9 @@ impl BodyExtent {
                 BodyExtent::Absent => BodyExtent::Range { min: a, max: b },
                 BodyExtent::Unknown => BodyExtent::Unknown,
                 BodyExtent::Range { min: c, max: d } => BodyExtent::Range {
-                    min: least(a, c),
-                    max: most(b, d),
+                    min: a.min(c),
+                    max: b.max(d),
                 },
-            },
-        }
-    }
-
-    fn same(self, other: BodyExtent) -> bool
-        ensures { result ≡ same_body self other }
-    {
-        match self {
-            BodyExtent::Absent => match other {
-                BodyExtent::Absent => true,
-                BodyExtent::Range { min: _, max: _ } => false,
-                BodyExtent::Unknown => false,
-            },
-            BodyExtent::Unknown => match other {
-                BodyExtent::Absent => false,
-                BodyExtent::Range { min: _, max: _ } => false,
-                BodyExtent::Unknown => true,
-            },
-            BodyExtent::Range { min: a, max: b } => match other {
-                BodyExtent::Absent => false,
-                BodyExtent::Unknown => false,
-                BodyExtent::Range { min: c, max: d } => (a == c) & (b == d),
             },
         }
     }
@@ -113,50 +72,37 @@ impl Extent {
         Extent { body: a.with(b) }
     }
 
-    pub fn same(self, other: Extent) -> bool
-        ensures { result ≡ same_extent self other }
-    {
-        let a = self.body;
-        let b = other.body;
-        a.same(b)
-    }
-
     // Absent is neutral, ranges span, Unknown absorbs.
     pub fn join(self, other: Extent) -> JoinedExtent
         ensures { result ≡ joined_extent self other }
     {
         let e = self.with(other);
-        let s = self.same(e);
         JoinedExtent {
             extent: e,
-            changed: !s,
+            changed: self != e,
         }
     }
 
-    pub fn minimum(self) -> Size
+    pub fn minimum(self) -> Option<u32>
         ensures { result ≡ extent_minimum self }
     {
         let e = self.body;
         match e {
-            BodyExtent::Absent => Size::Nothing,
-            BodyExtent::Range { min, max: _ } => Size::Bytes(min),
-            BodyExtent::Unknown => Size::Nothing,
+            BodyExtent::Absent => None,
+            BodyExtent::Range { min, max: _ } => Some(min),
+            BodyExtent::Unknown => None,
         }
     }
 
     // The size, where the range is one number.
-    pub fn exact(self) -> Size
+    pub fn exact(self) -> Option<u32>
         ensures { result ≡ extent_exact self }
     {
         let e = self.body;
         match e {
-            BodyExtent::Absent => Size::Nothing,
-            BodyExtent::Range { min, max } => if min == max {
-                Size::Bytes(min)
-            } else {
-                Size::Nothing
-            },
-            BodyExtent::Unknown => Size::Nothing,
+            BodyExtent::Absent => None,
+            BodyExtent::Range { min, max } => if min == max { Some(min) } else { None },
+            BodyExtent::Unknown => None,
         }
     }
 
@@ -165,8 +111,8 @@ impl Extent {
         ensures { result ≡ exact_width self }
     {
         match self.exact() {
-            Size::Bytes(n) => Width::Body(n),
-            Size::Nothing => Width::Unknown,
+            Some(n) => Width::Body(n),
+            None => Width::Unknown,
         }
     }
 }

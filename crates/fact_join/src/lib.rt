@@ -22,7 +22,7 @@ ghost use Rattle.run_state.specs.Course.{FactsOnly};
 ghost use Rattle.fact_join.specs.Taken.{FactsAfter, Written, Flowed, with_low};
 
 use cells::Cell;
-use flows::{Flow, Owned};
+use flows::Flow;
 use index::{chunk_at, slot_placed};
 use layout::{Chunk, Tables, input_at, place_at, result_at, slot_at};
 use masks::Mask;
@@ -38,12 +38,10 @@ fn join_facts(ws: &mut [u32], from: usize, to: usize, n: usize) -> bool
     requires { PlacesApart ws.old from to n }
     ensures { Arrived false to n (map bare_cell (cells_at ws.old from n)) ws.old ws.new result }
 {
-    let mut k = 0;
     let mut moved = false;
-    while k < n {
+    for k in 0..n {
         let c = load(ws, from + 16 * k);
         moved = moved | join_one(ws, to + 16 * k, false, c.bare());
-        k += 1;
     }
     moved
 }
@@ -87,7 +85,7 @@ fn stored_flow(flow: Flow) -> Flow
     let predicate = f.predicate;
     Flow {
         bodies,
-        owned: Owned::No,
+        owned: false,
         origin,
         predicate,
     }
@@ -167,11 +165,9 @@ fn give_writes(s: &[u8], ws: &mut [u32], t: Tables, v: RowVisit, changed: bool) 
     let r = slots_of(v.ins, slots);
     let value = operand(ws, v, 0);
     let end = r.end;
-    let mut k = r.first;
     let mut moved = changed;
-    while k < end {
+    for k in r.first..end {
         moved = write_slot(s, ws, t, k, value, moved);
-        k += 1;
     }
     moved
 }

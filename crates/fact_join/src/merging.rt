@@ -20,7 +20,7 @@ fn merge_slot(ws: &mut [u32], at: usize) -> bool
     let new = old.union(mask_at(ws, last));
     put_low(ws, at, new.bits);
     put_low(ws, last, 0);
-    !old.same(new)
+    old != new
 }
 
 // The end of a round: each slot's writes go into its private mask; whether the facts moved in the round.
@@ -31,11 +31,9 @@ pub fn merge_writes(s: &[u8], ws: &mut [u32], t: Tables, changed: bool) -> bool
         × (result ≡ moved (live_in s.now ws.old changed))
         × (live_in s.now ws.new false ≡ opened (closed (live_in s.now ws.old changed))) }
 {
-    let mut k = 0;
     let mut moved = changed;
-    while k < t.slots {
+    for k in 0..t.slots {
         moved = moved | merge_slot(ws, slot_at(t, k));
-        k += 1;
     }
     moved
 }

@@ -7,8 +7,8 @@ use mathlib.Core.List.{List, [], ◌++◌}
 use borrow.Author.Tests.{lt-ltb, le-ltb}
 use lib.Dec.{ltb}
 use lib.ListN.{length, drop, replicate, length-append, length-replicate}
-use Rattle.answers.specs.declared.Answer.{Answer}
-use Rattle.answers.specs.declared.Answer.TheVariants.{Refused}
+use Rattle.std.specs.Prelude.{Result, Err}
+use Rattle.answers.specs.declared.Accepted.{Accepted}
 use Rattle.answers.specs.declared.Refusal.{Refusal}
 use Rattle.answers.specs.Answers.{nowhere}
 use Rattle.definition.specs.Call.{call}
@@ -19,11 +19,11 @@ use Rattle.listing.proofs.Long.{refused-long}
 use Rattle.listing_laws.proofs.Fits.{listing-fits}
 use Rattle.factlisting.specs.Factlist.{called, factlist, text_room, Listed}
 
-pub listed-long : (s : List ℕ) (r : Refusal) → 16384 < length s → r ≡ nowhere 2 0 → factlist s ≡ listing (Refused r) []
+pub listed-long : (s : List ℕ) (r : Refusal) → 16384 < length s → r ≡ nowhere 2 0 → factlist s ≡ listing (Err r) []
 unfolding factlist
 listed-long s r h e = rw (lt-ltb 16384 (length s) h, e)
 
-pub listed-call : (s ws buf : List ℕ) (r : Answer) (buf' : List ℕ) → length s ≤ 16384 → ws ≡ replicate 16384 0 → buf ≡ replicate 16384 0
+pub listed-call : (s ws buf : List ℕ) (r : Result Accepted Refusal) (buf' : List ℕ) → length s ≤ 16384 → ws ≡ replicate 16384 0 → buf ≡ replicate 16384 0
     → r ≡ (call s ws buf 1000000).answer → buf' ≡ (call s ws buf 1000000).report → factlist s ≡ listing r buf'
 unfolding factlist called
 listed-call s ws buf r buf' h e f a b = rw (le-ltb 16384 (length s) h, a, b, e, f)
@@ -33,7 +33,7 @@ pub factlist-fits : (s : List ℕ) → length (factlist s) ≤ text_room
 unfolding factlist called listing
 factlist-fits s = go (ltb 16384 (length s))
   where
-    go : (b : Bool) → length (cond b (listing (Refused (nowhere 2 0)) []) (listing (called s).answer (called s).report)) ≤ text_room
+    go : (b : Bool) → length (cond b (listing (Err (nowhere 2 0)) []) (listing (called s).answer (called s).report)) ≤ text_room
     go true = omega (arith, refused-long (nowhere 2 0))
     go false = listing-fits s (replicate 16384 0) (replicate 16384 0) 1000000 (omega (arith, length-replicate {A = ℕ} 16384 0))
 

@@ -1,6 +1,5 @@
 -- What the program `factlist` prints for the bytes of its input.
-use Rattle.std.specs.Prelude.{ℕ, cond, ◌≡◌, List, [], ◌++◌, ltb, length, drop, replicate}
-use Rattle.answers.specs.declared.Answer.TheVariants.{Refused}
+use Rattle.std.specs.Prelude.{ℕ, cond, ◌≡◌, List, [], ◌++◌, ltb, length, drop, replicate, Err}
 use Rattle.answers.specs.Answers.{nowhere}
 use Rattle.definition.specs.Call.{Outcome, call}
 use Rattle.listing.specs.Listing.{listing}
@@ -11,7 +10,7 @@ called s = call s (replicate 16384 0) (replicate 16384 0) 1000000
 
 -- longer input is turned back without a call
 unfoldable pub factlist : List ℕ → List ℕ
-factlist s = cond (ltb 16384 (length s)) (listing (Refused (nowhere 2 0)) []) (listing (called s).answer (called s).report)
+factlist s = cond (ltb 16384 (length s)) (listing (Err (nowhere 2 0)) []) (listing (called s).answer (called s).report)
 
 -- the bytes that are room for every listing
 abbrev pub text_room : ℕ

@@ -4,7 +4,7 @@
 ghost use Rattle.std.specs.Prelude.{◌≡◌, ◌≤◌, length, replicate};
 ghost use Rattle.factlisting.specs.Factlist.{text_room, Listed};
 
-use answers::{Answer, nowhere};
+use answers::nowhere;
 use facts::check;
 use listing::list;
 use std::io;
@@ -29,7 +29,7 @@ pub fn list_facts(description: &[u8], text: &mut [u8]) -> usize
     ensures { Listed description.now text.old text.new result }
 {
     if 16384 < description.len() {
-        return list(Answer::Refused(nowhere(2, 0)), b"", text);
+        return list(Err(nowhere(2, 0)), b"", text);
     }
     let mut report = report_room();
     let mut words = word_room();

@@ -1,10 +1,6 @@
 -- What a program in another language gets: a number, and an array of its own filled with numbers.
-use Rattle.std.specs.Prelude.{ℕ, ◌+◌, ◌≡◌, Bool, true, not, cond, List, [], ◌∷◌, eqb, length, take, get_or}
-use Rattle.answers.specs.declared.Answer.TheVariants.{Accepted}
-use Rattle.answers.specs.declared.IndexedAnswer.TheVariants.{Accepted as AcceptedWith}
-use Rattle.answers.specs.Answers.{numbers, indexed_numbers}
-use Rattle.definition.specs.declared.Form.{Form}
-use Rattle.definition.specs.declared.Form.TheVariants.{Fine, Refused}
+use Rattle.std.specs.Prelude.{ℕ, ◌+◌, ◌≡◌, Bool, true, not, cond, List, [], ◌∷◌, eqb, length, take, get_or, Result, Ok, Err}
+use Rattle.answers.specs.Answers.{numbers, indexed_numbers, accepts, accepts_with}
 use Rattle.definition.specs.Module.{module_of}
 use Rattle.definition.specs.Report.{report_bytes}
 use Rattle.definition.specs.Form.{form_of}
@@ -17,8 +13,7 @@ use Rattle.report_bound.specs.Most.{most_report}
 use Rattle.report_bound.specs.Sizes.{NoLonger}
 use Rattle.lookup.specs.declared.Part.{Part}
 use Rattle.lookup.specs.Find.{at_end}
-use Rattle.report_index.specs.declared.Sought.{Sought}
-use Rattle.report_index.specs.declared.Sought.TheVariants.{Found, Disagrees}
+use Rattle.answers.specs.declared.Refusal.{Refusal}
 use Rattle.report_index.specs.Index.{agrees}
 use Rattle.pausing.specs.declared.Turn.{Turn as TurnAnswer}
 use Rattle.pausing.specs.Turned.{turn_numbers}
@@ -33,7 +28,7 @@ pub record CallOf (s ws buf : List ℕ) (limit r : ℕ) (out buf' ws' : List ℕ
   pub workspace : ws' ≡ (call s ws buf limit).workspace
   -- 0 is returned only where the call is accepted; demand 3, of the bytes that were written, which are exactly those of the report that is read
   -- back, and that no call accepts with others
-  pub accepted : r ≡ 0 → (long : ℕ) × (steps : ℕ) × ((call s ws buf limit).answer ≡ Accepted long steps) × Consistent (module_of s) (read_report (take long buf'))
+  pub accepted : r ≡ 0 → (long : ℕ) × (steps : ℕ) × ((call s ws buf limit).answer ≡ accepts long steps) × Consistent (module_of s) (read_report (take long buf'))
       × (report_bytes (read_report (take long buf')) ≡ take long buf') × OneReport s long steps (take long buf')
 
 -- the call with an index; idx the index buffer as it was, idx' what the call left in it
@@ -46,28 +41,28 @@ pub record IndexedCallOf (s ws buf idx : List ℕ) (limit r : ℕ) (out buf' idx
   pub workspace : ws' ≡ (call_indexed s ws buf idx limit).workspace
   -- 0 is returned only where the call is accepted; demand 3, byte for byte, that no call accepts with other bytes, and that report and index
   -- agree
-  pub accepted : r ≡ 0 → (long : ℕ) × (steps : ℕ) × (n : ℕ) × ((call_indexed s ws buf idx limit).answer ≡ AcceptedWith long steps n)
+  pub accepted : r ≡ 0 → (long : ℕ) × (steps : ℕ) × (n : ℕ) × ((call_indexed s ws buf idx limit).answer ≡ accepts_with long steps n)
       × Consistent (module_of s) (read_report (take long buf')) × (report_bytes (read_report (take long buf')) ≡ take long buf')
       × OneReport s long steps (take long buf') × (agrees (take long buf') (take n idx') ≡ true)
 
 -- 0 for good form, or the refusal's number
-unfoldable pub form_number : Form → ℕ
-form_number (Fine w) = 0
-form_number (Refused r) = r.number
+unfoldable pub form_number : Result ℕ Refusal → ℕ
+form_number (Ok w) = 0
+form_number (Err r) = r.number
 
 -- the least workspace, W + 1; 0 where there is none
-unfoldable pub least_words : Form → ℕ
-least_words (Fine w) = w + 1
-least_words (Refused r) = 0
+unfoldable pub least_words : Result ℕ Refusal → ℕ
+least_words (Ok w) = w + 1
+least_words (Err r) = 0
 
-pub record WordsOf (f : Form) (r : ℕ) (out : List ℕ) : Type 0 where
+pub record WordsOf (f : Result ℕ Refusal) (r : ℕ) (out : List ℕ) : Type 0 where
   pub number : r ≡ form_number f
   pub words : out ≡ least_words f ∷ []
 
 -- a length that no report of the description passes; 0 where there is none
-unfoldable pub longest_report : List ℕ → Form → ℕ
-longest_report s (Fine w) = most_report (module_of s)
-longest_report s (Refused r) = 0
+unfoldable pub longest_report : List ℕ → Result ℕ Refusal → ℕ
+longest_report s (Ok w) = most_report (module_of s)
+longest_report s (Err r) = 0
 
 pub record SizesOf (s : List ℕ) (r : ℕ) (out : List ℕ) : Type 0 where
   pub number : r ≡ form_number (form_of s)
@@ -81,15 +76,15 @@ pub record PartOf (x : Part) (r : ℕ) (out : List ℕ) : Type 0 where
   pub part : out ≡ x.first ∷ x.size ∷ []
 
 -- as numbers: 1 and the part, 0 and the empty part at the end; 20 and the same where report and index disagree
-unfoldable pub sought_number : Sought → ℕ
-sought_number (Found x) = cond (eqb x.size 0) 0 1
-sought_number (Disagrees r) = r.number
+unfoldable pub sought_number : Result Part Refusal → ℕ
+sought_number (Ok x) = cond (eqb x.size 0) 0 1
+sought_number (Err r) = r.number
 
-unfoldable pub sought_part : List ℕ → Sought → Part
-sought_part s (Found x) = x
-sought_part s (Disagrees r) = at_end s
+unfoldable pub sought_part : List ℕ → Result Part Refusal → Part
+sought_part s (Ok x) = x
+sought_part s (Err r) = at_end s
 
-pub record SoughtOf (s : List ℕ) (x : Sought) (r : ℕ) (out : List ℕ) : Type 0 where
+pub record SoughtOf (s : List ℕ) (x : Result Part Refusal) (r : ℕ) (out : List ℕ) : Type 0 where
   pub number : r ≡ sought_number x
   pub part : out ≡ (sought_part s x).first ∷ (sought_part s x).size ∷ []
 

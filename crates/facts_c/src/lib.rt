@@ -10,21 +10,19 @@ ghost use Rattle.facts_c.specs.Called.{CallOf, IndexedCallOf, WordsOf, SizesOf, 
 ghost use Rattle.pausing.specs.Turned.{turn_numbers};
 ghost use Rattle.pausing.specs.Resumed.{ShortTurn};
 
-use answers::{Answer, IndexedAnswer};
-use definition::Form;
-use facts::{Enough, Turn, check, check_indexed, lookup_indexed, resume_run, start_run};
+use answers::{Accepted, AcceptedIndexed, Refusal};
+use facts::{Turn, check, check_indexed, lookup_indexed, resume_run, start_run};
 use form::check_form;
 use lookup::{Part, part_of};
-use report_index::Sought;
 
 // An answer as five words.
-fn in_words(answer: Answer) -> [u32; 5]
+fn in_words(answer: Result<Accepted, Refusal>) -> [u32; 5]
     requires { get_or (numbers answer) 4 0 < 4294967296 }
     ensures { result ≡ numbers answer }
 {
     match answer {
-        Answer::Accepted { length, steps } => [0, 65535, 65535, steps, length as u32],
-        Answer::Refused(r) => [
+        Ok(a) => [0, 65535, 65535, a.steps, a.length as u32],
+        Err(r) => [
             r.number as u32,
             r.chunk as u32,
             r.instruction as u32,
@@ -35,15 +33,12 @@ fn in_words(answer: Answer) -> [u32; 5]
 }
 
 // The first of them.
-fn number_of(answer: Answer) -> u32
+fn number_of(answer: Result<Accepted, Refusal>) -> u32
     ensures { result ≡ get_or (numbers answer) 0 0 }
 {
     match answer {
-        Answer::Accepted {
-            length: _,
-            steps: _,
-        } => 0,
-        Answer::Refused(r) => r.number as u32,
+        Ok(_) => 0,
+        Err(r) => r.number as u32,
     }
 }
 
@@ -69,11 +64,11 @@ pub extern "C" fn facts_words(description: &[u8], words: &mut [u64; 1]) -> u32
     ensures { WordsOf (form_of description.now) result words.new }
 {
     match check_form(description) {
-        Form::Refused(r) => {
+        Err(r) => {
             *words = [0];
             r.number as u32
         }
-        Form::Fine(w) => {
+        Ok(w) => {
             *words = [w + 1];
             0
         }
@@ -86,12 +81,12 @@ pub extern "C" fn facts_sizes(description: &[u8], sizes: &mut [u64; 2]) -> u32
     ensures { SizesOf description.now result sizes.new }
 {
     match facts::sizes(description) {
-        Enough::Refused(r) => {
+        Err(r) => {
             *sizes = [0, 0];
             r.number as u32
         }
-        Enough::Room { words, report } => {
-            *sizes = [words, report];
+        Ok(room) => {
+            *sizes = [room.words, room.report];
             0
         }
     }
@@ -108,7 +103,7 @@ fn in_two_words(part: Part) -> [u64; 2]
 fn is_there(part: Part) -> u32
     ensures { result ≡ cond (eqb part.size 0) 0 1 }
 {
-    if part.size == 0 { 0 } else { 1 }
+    u32::from(part.size != 0)
 }
 
 // The part of a report that is an instruction's record, as first byte and length, and 1; or the empty part at the end, and 0.
@@ -127,17 +122,13 @@ pub extern "C" fn facts_lookup(
 }
 
 // An answer of a call with an index as six words.
-fn in_six_words(answer: IndexedAnswer) -> [u32; 6]
+fn in_six_words(answer: Result<AcceptedIndexed, Refusal>) -> [u32; 6]
     requires { (get_or (indexed_numbers answer) 4 0 < 4294967296) × (get_or (indexed_numbers answer) 5 0 < 4294967296) }
     ensures { result ≡ indexed_numbers answer }
 {
     match answer {
-        IndexedAnswer::Accepted {
-            length,
-            steps,
-            index,
-        } => [0, 65535, 65535, steps, length as u32, index as u32],
-        IndexedAnswer::Refused(refusal) => [
+        Ok(a) => [0, 65535, 65535, a.steps, a.length as u32, a.index as u32],
+        Err(refusal) => [
             refusal.number as u32,
             refusal.chunk as u32,
             refusal.instruction as u32,
@@ -179,11 +170,11 @@ pub extern "C" fn facts_lookup_indexed(
     ensures { SoughtOf report.now (sought report.now index.now chunk instruction) result part.new }
 {
     match lookup_indexed(report, index, chunk, instruction) {
-        Sought::Disagrees(r) => {
+        Err(r) => {
             *part = [report.len() as u64, 0];
             r.number as u32
         }
-        Sought::Found(found) => {
+        Ok(found) => {
             *part = in_two_words(found);
             is_there(found)
         }
@@ -200,16 +191,16 @@ fn turn_words(turn: Turn) -> [u32; 6]
 {
     match turn {
         Turn::Paused { steps } => [PAUSED, 65535, 65535, steps, 0, 0],
-        Turn::Refused(refusal) => in_six_words(IndexedAnswer::Refused(refusal)),
+        Turn::Refused(refusal) => in_six_words(Err(refusal)),
         Turn::Accepted {
             length,
             steps,
             index,
-        } => in_six_words(IndexedAnswer::Accepted {
+        } => in_six_words(Ok(AcceptedIndexed {
             length,
             steps,
             index,
-        }),
+        })),
     }
 }
 

@@ -1,5 +1,5 @@
 -- Flows, as `Flow` of types.rs: new, minimum, maximum, join, invalidate.
-use Rattle.std.specs.Prelude.{ℕ, max, Bool, true, false, cond, not, ◌&&◌, List, [], ◌∷◌, eqb, get_or}
+use Rattle.std.specs.Prelude.{ℕ, max, Bool, true, false, cond, not, ◌&&◌, List, [], ◌∷◌, eqb, get_or, Option, None, Some}
 use Rattle.masks.specs.declared.Mask.{Mask}
 use Rattle.masks.specs.Mask.{has}
 use Rattle.masks.specs.Names.{TUPLE, ARRAY, STRUCT, ENUM}
@@ -9,13 +9,7 @@ use Rattle.widths.specs.Width.{flat}
 use Rattle.extents.specs.declared.BodyExtent.{BodyExtent}
 use Rattle.extents.specs.declared.BodyExtent.TheVariants.{Absent, Range, Unknown}
 use Rattle.extents.specs.declared.Extent.{Extent}
-use Rattle.extents.specs.declared.Size.{Size}
-use Rattle.extents.specs.declared.Size.TheVariants.{Nothing, Bytes}
 use Rattle.extents.specs.Extent.{join_bodies, same_bodies, extent_minimum}
-use Rattle.flows.specs.declared.Owned.{Owned}
-use Rattle.flows.specs.declared.Owned.TheVariants.{No, Yes}
-use Rattle.flows.specs.declared.Origin.{Origin}
-use Rattle.flows.specs.declared.Origin.TheVariants.{Nowhere, Local}
 use Rattle.flows.specs.declared.Predicate.{Predicate}
 use Rattle.flows.specs.declared.Predicate.TheVariants.{Nothing as Untested, Tests}
 use Rattle.flows.specs.declared.Flow.{Flow}
@@ -26,24 +20,24 @@ same_bool true b = b
 same_bool false b = not b
 
 -- owned if either is
-abbrev pub join_owned : Owned → Owned → Owned
-join_owned Yes y = Yes
-join_owned No y = y
+abbrev pub join_owned : Bool → Bool → Bool
+join_owned true y = true
+join_owned false y = y
 
-abbrev pub same_owned : Owned → Owned → Bool
-same_owned Yes Yes = true
-same_owned Yes No = false
-same_owned No Yes = false
-same_owned No No = true
+abbrev pub same_owned : Bool → Bool → Bool
+same_owned true true = true
+same_owned true false = false
+same_owned false true = false
+same_owned false false = true
 
-abbrev pub same_origin : Origin → Origin → Bool
-same_origin Nowhere Nowhere = true
-same_origin Nowhere (Local b) = false
-same_origin (Local a) Nowhere = false
-same_origin (Local a) (Local b) = eqb a b
+abbrev pub same_origin : Option ℕ → Option ℕ → Bool
+same_origin None None = true
+same_origin None (Some b) = false
+same_origin (Some a) None = false
+same_origin (Some a) (Some b) = eqb a b
 
-abbrev pub join_origin : Origin → Origin → Origin
-join_origin = flat same_origin Nowhere
+abbrev pub join_origin : Option ℕ → Option ℕ → Option ℕ
+join_origin = flat same_origin None
 
 abbrev pub same_predicate : Predicate → Predicate → Bool
 same_predicate Untested Untested = true
@@ -82,8 +76,8 @@ unfoldable pub no_flow : Flow
 no_flow =
     record {
       bodies = absent ∷ absent ∷ absent ∷ absent ∷ [];
-      owned = No;
-      origin = Nowhere;
+      owned = false;
+      origin = None;
       predicate = Untested;
     }
 
@@ -96,7 +90,7 @@ abbrev pub extent_of_kind : Bool → Width → Extent
 extent_of_kind present w = cond present (extent_of_width w) absent
 
 -- each body kind of the mask gets the width's size, or Unknown
-unfoldable pub new_flow : Mask → Width → Owned → Flow
+unfoldable pub new_flow : Mask → Width → Bool → Flow
 new_flow m w o =
     record {
       bodies =
@@ -106,39 +100,39 @@ new_flow m w o =
           ∷ extent_of_kind (has m ENUM) w
           ∷ [];
       owned = o;
-      origin = Nowhere;
+      origin = None;
       predicate = Untested;
     }
 
 -- the least size of a body of the one kind that the mask names
-unfoldable pub minimum_of : Flow → Mask → Size
+unfoldable pub minimum_of : Flow → Mask → Option ℕ
 minimum_of f m =
     cond (eqb m.bits 256) (extent_minimum (get_or f.bodies 0 absent))
     (cond (eqb m.bits 512) (extent_minimum (get_or f.bodies 1 absent))
     (cond (eqb m.bits 1024) (extent_minimum (get_or f.bodies 2 absent))
     (cond (eqb m.bits 2048) (extent_minimum (get_or f.bodies 3 absent))
-    Nothing)))
+    None)))
 
-abbrev pub larger_body : ℕ → BodyExtent → Size
-larger_body m Absent = Bytes m
-larger_body m (Range a b) = Bytes (max m b)
-larger_body m Unknown = Nothing
+abbrev pub larger_body : ℕ → BodyExtent → Option ℕ
+larger_body m Absent = Some m
+larger_body m (Range a b) = Some (max m b)
+larger_body m Unknown = None
 
-abbrev pub larger : Size → Extent → Size
-larger Nothing x = Nothing
-larger (Bytes m) x = larger_body m x.body
+abbrev pub larger : Option ℕ → Extent → Option ℕ
+larger None x = None
+larger (Some m) x = larger_body m x.body
 
-abbrev pub largest : Size → List Extent → Size
+abbrev pub largest : Option ℕ → List Extent → Option ℕ
 largest m [] = m
 largest m (x ∷ xs) = largest (larger m x) xs
 
 -- the largest size of any body, where all are bounded
-unfoldable pub maximum_of : Flow → Size
-maximum_of f = largest (Bytes 0) f.bodies
+unfoldable pub maximum_of : Flow → Option ℕ
+maximum_of f = largest (Some 0) f.bodies
 
-abbrev pub origin_without : Origin → ℕ → Origin
-origin_without Nowhere l = Nowhere
-origin_without (Local i) l = cond (eqb i l) Nowhere (Local i)
+abbrev pub origin_without : Option ℕ → ℕ → Option ℕ
+origin_without None l = None
+origin_without (Some i) l = cond (eqb i l) None (Some i)
 
 abbrev pub predicate_without : Predicate → ℕ → Predicate
 predicate_without Untested l = Untested
@@ -156,7 +150,7 @@ invalidated f l =
 
 -- without origin and predicate, as facts between chunks are
 unfoldable pub bare : Flow → Flow
-bare f = record { bodies = f.bodies; owned = f.owned; origin = Nowhere; predicate = Untested }
+bare f = record { bodies = f.bodies; owned = f.owned; origin = None; predicate = Untested }
 
 -- the predicate of the negated Bool
 abbrev pub negated : Predicate → Predicate

@@ -1,39 +1,27 @@
 // Flows: the extents of a place's body kinds with ownership, origin and predicate.
 #![tactic(auto)]
 
-ghost use Rattle.std.specs.Prelude.{◌≡◌};
-ghost use Rattle.flows.specs.Flow.{join_owned, same_owned, same_origin, join_origin, origin_without, same_predicate, join_predicate, predicate_without, negated, same_bool, join_flow, same_flow, joined_flow, no_flow, extent_of_kind, new_flow, minimum_of, larger, largest, maximum_of, invalidated, bare};
+ghost use Rattle.std.specs.Prelude.{◌≡◌, Some};
+ghost use Rattle.flows.specs.Flow.{join_origin, origin_without, join_predicate, predicate_without, negated, join_flow, joined_flow, no_flow, extent_of_kind, new_flow, minimum_of, larger, largest, maximum_of, invalidated, bare};
 
-use extents::{BodyExtent, Extent, Size, join_bodies, most, same_bodies};
+use extents::{BodyExtent, Extent, join_bodies};
 use masks::Mask;
 use widths::Width;
 
-// Whether the body in a place is owned.
-#[derive(Clone, Copy)]
-pub enum Owned {
-    No,
-    Yes,
-}
-
-// The local that a value was read from and still equals.
-#[derive(Clone, Copy)]
-pub enum Origin {
-    Nowhere,
-    Local(u16),
-}
-
 // A Bool that says whether a local holds an enum, and for which of its values it does.
-#[derive(Clone, Copy)]
+#[derive(Clone, Copy, PartialEq, Eq)]
 pub enum Predicate {
     Nothing,
     Tests { receiver: u16, when: bool },
 }
 
-#[derive(Clone, Copy)]
+#[derive(Clone, Copy, PartialEq, Eq)]
 pub struct Flow {
     pub bodies: [Extent; 4],
-    pub owned: Owned,
-    pub origin: Origin,
+    // Whether the body in the place is owned.
+    pub owned: bool,
+    // The local that the value was read from and still equals.
+    pub origin: Option<u16>,
     pub predicate: Predicate,
 }
 
@@ -43,77 +31,21 @@ pub struct JoinedFlow {
     pub changed: bool,
 }
 
-pub fn same_bool(a: bool, b: bool) -> bool
-    ensures { result ≡ same_bool a b }
+// An origin once this local is forgotten.
+fn origin_without(origin: Option<u16>, local: u16) -> Option<u16>
+    ensures { result ≡ origin_without origin local }
 {
-    if a { b } else { !b }
-}
-
-impl Owned {
-    fn join(self, other: Owned) -> Owned
-        ensures { result ≡ join_owned self other }
-    {
-        match self {
-            Owned::Yes => Owned::Yes,
-            Owned::No => other,
-        }
-    }
-
-    fn same(self, other: Owned) -> bool
-        ensures { result ≡ same_owned self other }
-    {
-        match self {
-            Owned::Yes => match other {
-                Owned::Yes => true,
-                Owned::No => false,
-            },
-            Owned::No => match other {
-                Owned::Yes => false,
-                Owned::No => true,
-            },
-        }
+    match origin {
+        Some(i) => if i == local { None } else { Some(i) },
+        None => None,
     }
 }
 
-impl Origin {
-    // Forgets this local.
-    fn without(self, local: u16) -> Origin
-        ensures { result ≡ origin_without self local }
-    {
-        match self {
-            Origin::Nowhere => Origin::Nowhere,
-            Origin::Local(i) => if i == local {
-                Origin::Nowhere
-            } else {
-                Origin::Local(i)
-            },
-        }
-    }
-
-    fn same(self, other: Origin) -> bool
-        ensures { result ≡ same_origin self other }
-    {
-        match self {
-            Origin::Nowhere => match other {
-                Origin::Nowhere => true,
-                Origin::Local(_) => false,
-            },
-            Origin::Local(a) => match other {
-                Origin::Nowhere => false,
-                Origin::Local(b) => a == b,
-            },
-        }
-    }
-
-    fn join(self, other: Origin) -> Origin
-        ensures { result ≡ join_origin self other }
-    {
-        if self.same(other) {
-            self
-        } else {
-            Origin::Nowhere
-        }
-    }
+// Unequal origins join to none.
+fn join_origin(a: Option<u16>, b: Option<u16>) -> Option<u16>
+    ensures { result ≡ join_origin a b }
+{
+    if a == b { a } else { None }
 }
 
 impl Predicate {
@@ -144,34 +76,10 @@ impl Predicate {
         }
     }
 
-    fn same(self, other: Predicate) -> bool
-        ensures { result ≡ same_predicate self other }
-    {
-        match self {
-            Predicate::Nothing => match other {
-                Predicate::Nothing => true,
-                Predicate::Tests {
-                    receiver: _,
-                    when: _,
-                } => false,
-            },
-            Predicate::Tests {
-                receiver: a,
-                when: x,
-            } => match other {
-                Predicate::Nothing => false,
-                Predicate::Tests {
-                    receiver: b,
-                    when: y,
-                } => (a == b) & same_bool(x, y),
-            },
-        }
-    }
-
     fn join(self, other: Predicate) -> Predicate
         ensures { result ≡ join_predicate self other }
     {
-        if self.same(other) {
+        if self == other {
             self
         } else {
             Predicate::Nothing
@@ -194,25 +102,25 @@ fn extent_of(present: bool, width: Width) -> Extent
 }
 
 // The larger of a bound so far and what an extent can be, if that is bounded.
-fn larger(sofar: Size, extent: Extent) -> Size
+fn larger(sofar: Option<u32>, extent: Extent) -> Option<u32>
     ensures { result ≡ larger sofar extent }
 {
     let e = extent.body;
     match sofar {
-        Size::Nothing => Size::Nothing,
-        Size::Bytes(m) => match e {
-            BodyExtent::Absent => Size::Bytes(m),
-            BodyExtent::Range { min: _, max } => Size::Bytes(most(m, max)),
-            BodyExtent::Unknown => Size::Nothing,
+        None => None,
+        Some(m) => match e {
+            BodyExtent::Absent => Some(m),
+            BodyExtent::Range { min: _, max } => Some(m.max(max)),
+            BodyExtent::Unknown => None,
         },
     }
 }
 
 // The largest size that four extents can be, where all are bounded.
-fn largest(e: [Extent; 4]) -> Size
-    ensures { result ≡ largest (Size.Bytes 0) e }
+fn largest(e: [Extent; 4]) -> Option<u32>
+    ensures { result ≡ largest (Some 0) e }
 {
-    let m = larger(Size::Bytes(0), e[0]);
+    let m = larger(Some(0), e[0]);
     let m = larger(m, e[1]);
     let m = larger(m, e[2]);
     larger(m, e[3])
@@ -225,13 +133,13 @@ impl Flow {
     {
         Flow {
             bodies: [Extent::ABSENT; 4],
-            owned: Owned::No,
-            origin: Origin::Nowhere,
+            owned: false,
+            origin: None,
             predicate: Predicate::Nothing,
         }
     }
 
-    pub fn new(mask: Mask, width: Width, owned: Owned) -> Flow
+    pub fn new(mask: Mask, width: Width, owned: bool) -> Flow
         ensures { result ≡ new_flow mask width owned }
     {
         Flow {
@@ -242,7 +150,7 @@ impl Flow {
                 extent_of(mask.has(Mask::ENUM), width),
             ],
             owned,
-            origin: Origin::Nowhere,
+            origin: None,
             predicate: Predicate::Nothing,
         }
     }
@@ -260,43 +168,24 @@ impl Flow {
         let p2 = other.predicate;
         Flow {
             bodies: join_bodies(b1, b2),
-            owned: w1.join(w2),
-            origin: o1.join(o2),
+            owned: w1 | w2,
+            origin: join_origin(o1, o2),
             predicate: p1.join(p2),
         }
-    }
-
-    pub fn same(self, other: Flow) -> bool
-        ensures { result ≡ same_flow self other }
-    {
-        let b1 = self.bodies;
-        let b2 = other.bodies;
-        let w1 = self.owned;
-        let w2 = other.owned;
-        let o1 = self.origin;
-        let o2 = other.origin;
-        let p1 = self.predicate;
-        let p2 = other.predicate;
-        let b = same_bodies(b1, b2);
-        let w = w1.same(w2);
-        let o = o1.same(o2);
-        let p = p1.same(p2);
-        b & (w & (o & p))
     }
 
     pub fn join(self, other: Flow) -> JoinedFlow
         ensures { result ≡ joined_flow self other }
     {
         let f = self.with(other);
-        let s = self.same(f);
         JoinedFlow {
             flow: f,
-            changed: !s,
+            changed: self != f,
         }
     }
 
     // The least size of a body of the one kind in the mask.
-    pub fn minimum(self, mask: Mask) -> Size
+    pub fn minimum(self, mask: Mask) -> Option<u32>
         ensures { result ≡ minimum_of self mask }
     {
         let e = self.bodies;
@@ -306,12 +195,12 @@ impl Flow {
             512 => e[1].minimum(),
             1024 => e[2].minimum(),
             2048 => e[3].minimum(),
-            _ => Size::Nothing,
+            _ => None,
         }
     }
 
     // The largest size of any body, where all are bounded.
-    pub fn maximum(self) -> Size
+    pub fn maximum(self) -> Option<u32>
         ensures { result ≡ maximum_of self }
     {
         let e = self.bodies;
@@ -329,7 +218,7 @@ impl Flow {
         Flow {
             bodies,
             owned,
-            origin: o.without(local),
+            origin: origin_without(o, local),
             predicate: p.without(local),
         }
     }
@@ -343,7 +232,7 @@ impl Flow {
         Flow {
             bodies,
             owned,
-            origin: Origin::Nowhere,
+            origin: None,
             predicate: Predicate::Nothing,
         }
     }

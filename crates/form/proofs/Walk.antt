@@ -6,22 +6,20 @@ use Prim.Native.Nat.{ℕ, ◌<◌, ◌≤◌}
 use native.Mathlib.Omega.{arith}
 use borrow.Author.Tests.{le-ltb}
 use lib.ListN.{length}
+use Rattle.std.proofs.Common.{Result, Ok, Err}
 use Rattle.answers.specs.declared.Refusal.{Refusal}
 use Rattle.description.specs.Fields.{next_at, fields_from}
 use Rattle.description.proofs.Walk.{fields-turn, fields-end}
 use Rattle.description.specs.reader.Reading.{after}
 use Rattle.description.proofs.reader.Laws.{after_next}
 use Rattle.definition.specs.declared.Scan.{Scan}
-use Rattle.definition.specs.declared.ScanStep.TheVariants.{Go, Stop}
-use Rattle.definition.specs.declared.Form.{Form}
-use Rattle.definition.specs.declared.Form.TheVariants.{Refused}
 use Rattle.definition.specs.Form.{field_step, finished, on_step, scan_from, unscanned, form_of}
 use Rattle.form.specs.late_checks.Counted.{counted}
 use Rattle.form.specs.code_steps.Bounds.{Bounded}
 use Rattle.form.proofs.Within.{After, go-after, go-inside}
 
 -- from the field at p on the walk gives w, nothing passes its bound, and what the late looks count is what they count from here on
-pub record Walking (s : List ℕ) (p : ℕ) (t : Scan) (w : Form) : Type 0 where
+pub record Walking (s : List ℕ) (p : ℕ) (t : Scan) (w : Result ℕ Refusal) : Type 0 where
   pub inside : p ≤ length s
   pub bound : Bounded t p
   pub gives : scan_from s (fields_from s p) t ≡ w
@@ -49,8 +47,8 @@ walk_start s h =
       counts = refl;
     }
 
-module _ (s : List ℕ) (p : ℕ) (t : Scan) (w : Form) (k : Walking s p t w) where
-  pub walk-go : (u : Scan) → p < length s → field_step s p t ≡ Go u → Walking s (after s p) u w
+module _ (s : List ℕ) (p : ℕ) (t : Scan) (w : Result ℕ Refusal) (k : Walking s p t w) where
+  pub walk-go : (u : Scan) → p < length s → field_step s p t ≡ Ok u → Walking s (after s p) u w
   unfolding scan_from on_step
   walk-go u h e =
       let a : After s p t u = go-after s p t u k.bound e in
@@ -62,7 +60,7 @@ module _ (s : List ℕ) (p : ℕ) (t : Scan) (w : Form) (k : Walking s p t w) wh
         counts = sym (a.count (fields_from s (next_at s p))) ∙ (rw (fields-turn s p h) at k.counts);
       })
 
-  pub walk-stop : (r : Refusal) → p < length s → field_step s p t ≡ Stop r → Refused r ≡ w
+  pub walk-stop : (r : Refusal) → p < length s → field_step s p t ≡ Err r → Err r ≡ w
   unfolding scan_from on_step
   walk-stop r h e = rw (fields-turn s p h, e) at k.gives
 

@@ -4,6 +4,7 @@ use mathlib.Core.Bool.{Bool, true, false, cond, ◌&&◌, ◌||◌}
 use mathlib.Core.List.{List, ◌∷◌}
 use Prim.Native.Nat.{ℕ, ◌+◌, ◌-◌, ◌<◌, ◌≤◌}
 use native.Mathlib.Omega.{arith}
+use Rattle.std.proofs.Common.{Result, Ok, Err}
 use Rattle.masks.proofs.Both.{both}
 use Rattle.form_laws.proofs.Faults.{HeaderFine, header-fine, ChunkFine, chunk-fine, instr-fine}
 use borrow.Author.Tests.{lt-ltb, ltb-true, ltb-false, eqb-true, ne_eqb}
@@ -13,8 +14,6 @@ use Rattle.answers.specs.declared.Refusal.{Refusal}
 use Rattle.description.specs.Fields.{tag_at, len_at, next_at, header_of, chunk_of, instr_of}
 use Rattle.description.proofs.Walk.{next-after}
 use Rattle.definition.specs.declared.Scan.{Scan}
-use Rattle.definition.specs.declared.ScanStep.{ScanStep}
-use Rattle.definition.specs.declared.ScanStep.TheVariants.{Go, Stop}
 use Rattle.definition.specs.Module.{signed_params}
 use Rattle.answers.specs.Answers.{nowhere, in_field}
 use Rattle.definition.specs.Form.{header_fault, chunk_fault, instr_fault, site_fault, table_fault, or_stop, past_header, header_step, past_chunk, chunk_step, past_instr, instr_step, placed, site_step, so_far, table_step, field_step}
@@ -27,9 +26,9 @@ pub record After (s : List ℕ) (p : ℕ) (t u : Scan) : Type 0 where
   pub bound : Bounded u (next_at s p)
   pub count : (ps : List ℕ) → counted s t.seen t.instrs (p ∷ ps) ≡ counted s u.seen u.instrs ps
 
-abbrev Within : List ℕ → ℕ → Scan → ScanStep → Type 0
-Within s p t (Go u) = After s p t u
-Within s p t (Stop r) = Unit
+abbrev Within : List ℕ → ℕ → Scan → Result Scan Refusal → Type 0
+Within s p t (Ok u) = After s p t u
+Within s p t (Err r) = Unit
 
 pub widen : (t : Scan) (n m : ℕ) → Bounded t n → n ≤ m → Bounded t m
 widen t n m b h =
@@ -50,11 +49,11 @@ module _ (s : List ℕ) (p : ℕ) (t : Scan) (b : Bounded t p) where
   stop-within : (k : ℕ) (r : Refusal) (u : Scan) → (k ≡ 0 → After s p t u) → Within s p t (or_stop k r u)
   stop-within k r u f = go (eqb k 0) (λ e. f (eqb-true k 0 e))
     where
-      go : (x : Bool) → (x ≡ true → After s p t u) → Within s p t (cond x (Go u) (Stop r))
+      go : (x : Bool) → (x ≡ true → After s p t u) → Within s p t (cond x (Ok u) (Err r))
       go true g = g refl
       go false g = tt
 
-  cond-within : (x : Bool) (a c : ScanStep) → (x ≡ true → Within s p t a) → (x ≡ false → Within s p t c) → Within s p t (cond x a c)
+  cond-within : (x : Bool) (a c : Result Scan Refusal) → (x ≡ true → Within s p t a) → (x ≡ false → Within s p t c) → Within s p t (cond x a c)
   cond-within true a c f g = f refl
   cond-within false a c f g = g refl
 
@@ -186,12 +185,12 @@ module _ (s : List ℕ) (p : ℕ) (t : Scan) (b : Bounded t p) where
   unfolding field_step
   step-within =
       let g : ℕ = tag_at s p in
-      let stop : ScanStep = Stop (nowhere 1 0) in
-      let x5 : ScanStep = cond (ltb 4 g && ltb g 9) (table_step s p g t) stop in
-      let x4 : ScanStep = cond (eqb g 4) (site_step s p t) x5 in
-      let x3 : ScanStep = cond (eqb g 3) (instr_step s p t) x4 in
-      let x2 : ScanStep = cond (eqb g 2) (chunk_step s p t) x3 in
-      let x1 : ScanStep = cond (eqb g 1) (header_step s p t) x2 in
+      let stop : Result Scan Refusal = Err (nowhere 1 0) in
+      let x5 : Result Scan Refusal = cond (ltb 4 g && ltb g 9) (table_step s p g t) stop in
+      let x4 : Result Scan Refusal = cond (eqb g 4) (site_step s p t) x5 in
+      let x3 : Result Scan Refusal = cond (eqb g 3) (instr_step s p t) x4 in
+      let x2 : Result Scan Refusal = cond (eqb g 2) (chunk_step s p t) x3 in
+      let x1 : Result Scan Refusal = cond (eqb g 1) (header_step s p t) x2 in
       cond-within (ltb (length s) (next_at s p)) stop x1 (λ e. tt)
       (λ e0. cond-within (eqb g 1) (header_step s p t) x2 (λ e. header-within (eqb-true g 1 e))
       (λ e1. cond-within (eqb g 2) (chunk_step s p t) x3 (λ e. chunk-within (eqb-true g 2 e))
@@ -200,14 +199,14 @@ module _ (s : List ℕ) (p : ℕ) (t : Scan) (b : Bounded t p) where
       (λ e4. cond-within (ltb 4 g && ltb g 9) (table_step s p g t) stop
       (λ e. table-within (ltb-true 4 g (both (ltb 4 g) (ltb g 9) e).0)) (λ e. tt))))))
 
-pub go-after : (s : List ℕ) (p : ℕ) (t u : Scan) → Bounded t p → field_step s p t ≡ Go u → After s p t u
+pub go-after : (s : List ℕ) (p : ℕ) (t u : Scan) → Bounded t p → field_step s p t ≡ Ok u → After s p t u
 go-after s p t u b e = rw e at (step-within s p t b)
 
 -- a field that is passed fits the description
-pub go-inside : (s : List ℕ) (p : ℕ) (t u : Scan) → field_step s p t ≡ Go u → next_at s p ≤ length s
+pub go-inside : (s : List ℕ) (p : ℕ) (t u : Scan) → field_step s p t ≡ Ok u → next_at s p ≤ length s
 unfolding field_step
 go-inside s p t u e = go (ltb (length s) (next_at s p)) refl
   where
     go : (x : Bool) → ltb (length s) (next_at s p) ≡ x → next_at s p ≤ length s
-    go true h = let f : ◌≡◌ {A = ScanStep} (Stop (nowhere 1 0)) (Go u) = rw h at e in let z : ◌≡◌ {A = ℕ} 0 1 = cc in absurd (omega arith)
+    go true h = let f : ◌≡◌ {A = Result Scan Refusal} (Err (nowhere 1 0)) (Ok u) = rw h at e in let z : ◌≡◌ {A = ℕ} 0 1 = cc in absurd (omega arith)
     go false h = ltb-false (length s) (next_at s p) h

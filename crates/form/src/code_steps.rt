@@ -5,22 +5,17 @@ ghost use Rattle.form.specs.code_steps.Bounds.{Bounded};
 
 use crate::late_checks::before;
 use answers::{Refusal, in_field};
-use definition::{Scan, ScanStep, params_in};
+use definition::{Scan, params_in};
 use description::{chunk_head_at, instr_at, len_at};
 use form_rules::{chunk_fault, instr_fault};
-use le::wide64;
 
-pub fn or_stop(number: u8, refusal: Refusal, next: Scan) -> ScanStep
+pub fn or_stop(number: u8, refusal: Refusal, next: Scan) -> Result<Scan, Refusal>
     ensures { result ≡ or_stop number refusal next }
 {
-    if number == 0 {
-        ScanStep::Go(next)
-    } else {
-        ScanStep::Stop(refusal)
-    }
+    if number == 0 { Ok(next) } else { Err(refusal) }
 }
 
-pub fn chunk_step(s: &[u8], p: usize, scan: Scan) -> ScanStep
+pub fn chunk_step(s: &[u8], p: usize, scan: Scan) -> Result<Scan, Refusal>
     requires { (p < 2 ^ 61) × Bounded scan (2 ^ 31) }
     ensures { result ≡ chunk_step s.now p scan }
 {
@@ -40,11 +35,11 @@ pub fn chunk_step(s: &[u8], p: usize, scan: Scan) -> ScanStep
     next.locals = h.locals;
     next.stack = h.stack;
     next.instrs = 0;
-    next.cells = scan.cells + wide64(params_in(s, p, signed)) + 2;
+    next.cells = scan.cells + u64::from(params_in(s, p, signed)) + 2;
     or_stop(n, in_field(n, scan.seen, 65535), next)
 }
 
-pub fn instr_step(s: &[u8], p: usize, scan: Scan) -> ScanStep
+pub fn instr_step(s: &[u8], p: usize, scan: Scan) -> Result<Scan, Refusal>
     requires { (p < 2 ^ 61) × Bounded scan (2 ^ 31) }
     ensures { result ≡ instr_step s.now p scan }
 {

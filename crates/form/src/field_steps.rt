@@ -4,12 +4,12 @@ ghost use Rattle.definition.specs.Form.{header_step, placed, site_step, so_far, 
 ghost use Rattle.form.specs.code_steps.Bounds.{Bounded};
 
 use crate::code_steps::{chunk_step, instr_step, or_stop};
-use answers::nowhere;
-use definition::{Scan, ScanStep};
+use answers::{Refusal, nowhere};
+use definition::Scan;
 use description::{header_at, len_at, next_at, tag_at};
 use form_rules::{header_fault, site_fault, table_fault};
 
-fn header_step(s: &[u8], p: usize, scan: Scan) -> ScanStep
+fn header_step(s: &[u8], p: usize, scan: Scan) -> Result<Scan, Refusal>
     requires { p < 2 ^ 61 }
     ensures { result ≡ header_step s.now p scan }
 {
@@ -43,7 +43,7 @@ fn placed(tag: u8, count: u32, scan: Scan) -> Scan
     next
 }
 
-fn site_step(s: &[u8], p: usize, scan: Scan) -> ScanStep
+fn site_step(s: &[u8], p: usize, scan: Scan) -> Result<Scan, Refusal>
     requires { p < 2 ^ 61 }
     ensures { result ≡ site_step s.now p scan }
 {
@@ -62,7 +62,7 @@ fn so_far(scan: Scan, tag: u8) -> u32
 }
 
 // Tags 5 to 8.
-fn table_step(s: &[u8], p: usize, tag: u8, scan: Scan) -> ScanStep
+fn table_step(s: &[u8], p: usize, tag: u8, scan: Scan) -> Result<Scan, Refusal>
     requires { (p < 2 ^ 61) × Bounded scan (2 ^ 31) }
     ensures { result ≡ table_step s.now p tag scan }
 {
@@ -79,12 +79,12 @@ fn table_step(s: &[u8], p: usize, tag: u8, scan: Scan) -> ScanStep
     or_stop(n, nowhere(n, 0), placed(tag, more, scan))
 }
 
-pub fn field_step(s: &[u8], p: usize, scan: Scan) -> ScanStep
+pub fn field_step(s: &[u8], p: usize, scan: Scan) -> Result<Scan, Refusal>
     requires { (p < 2 ^ 61) × Bounded scan (2 ^ 31) }
     ensures { result ≡ field_step s.now p scan }
 {
     if s.len() < next_at(s, p) {
-        return ScanStep::Stop(nowhere(1, 0));
+        return Err(nowhere(1, 0));
     }
     let tag = tag_at(s, p);
     if tag == 1 {
@@ -102,5 +102,5 @@ pub fn field_step(s: &[u8], p: usize, scan: Scan) -> ScanStep
     if (4 < tag) & (tag < 9) {
         return table_step(s, p, tag, scan);
     }
-    ScanStep::Stop(nowhere(1, 0))
+    Err(nowhere(1, 0))
 }

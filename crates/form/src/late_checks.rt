@@ -3,9 +3,9 @@ ghost use Rattle.std.specs.Prelude.{◌≡◌, true, ◌-◌, ◌<◌, ◌≤◌
 ghost use Rattle.description.specs.Fields.{fields_from};
 ghost use Rattle.definition.specs.Bounds.{most_bytes, most_chunks};
 ghost use Rattle.definition.specs.Form.{late_fault, late_look};
-ghost use Rattle.form.specs.late_checks.Counted.{counted, param_list, param_table};
+ghost use Rattle.form.specs.late_checks.Counted.{counted, param_list, param_table, passed};
 
-use answers::{Refusal, in_field, nowhere};
+use answers::{Refusal, in_field};
 use definition::params_in;
 use description::{has_site, instr_at, next_at, tag_at};
 use ops::{CALL, YIELD};
@@ -59,10 +59,10 @@ pub fn before(seen: u16) -> u16
     if 0 < seen { seen - 1 } else { 0 }
 }
 
-// The first fault by chunk and instruction, or number 0.
-pub fn late_look(s: &[u8], signatures: u16) -> Refusal
+// The first fault by chunk and instruction.
+pub fn late_look(s: &[u8], signatures: u16) -> Result<(), Refusal>
     requires { (length s.now ≤ most_bytes) × (counted s.now 0 0 (fields_from s.now 0) ≡ true) × (signatures ≤ most_chunks) }
-    ensures { result ≡ late_look s.now (param_list s.now signatures) 0 0 (fields_from s.now 0) }
+    ensures { result ≡ passed (late_look s.now (param_list s.now signatures) 0 0 (fields_from s.now 0)) }
 {
     let params = parameters(s, signatures);
     let mut at: usize = 0;
@@ -76,11 +76,11 @@ pub fn late_look(s: &[u8], signatures: u16) -> Refusal
             instr = 0;
         } else if tag == 3 {
             if faulty(s, at, params) {
-                return in_field(3, before(chunk), instr);
+                return Err(in_field(3, before(chunk), instr));
             }
             instr += 1;
         }
         at = next;
     }
-    nowhere(0, 0)
+    Ok(())
 }

@@ -10,13 +10,13 @@ pub mod room;
 ghost use Rattle.std.specs.Prelude.{◌≡◌, true, ◌≤◌, ◌^◌, length};
 ghost use Rattle.description.specs.Fields.{fields_from};
 ghost use Rattle.definition.specs.Bounds.{most_bytes};
-ghost use Rattle.definition.specs.Form.{after_look, finished, form_of};
+ghost use Rattle.definition.specs.Form.{finished, form_of};
 ghost use Rattle.description.specs.reader.Reading.{left};
 ghost use Rattle.form.specs.late_checks.Counted.{counted};
 ghost use Rattle.form.specs.code_steps.Bounds.{Bounded};
 
 use answers::{Refusal, nowhere};
-use definition::{Form, Scan, ScanStep};
+use definition::Scan;
 use description::reader::{Reader, place_after, start};
 use field_steps::field_step;
 use late_checks::late_look;
@@ -25,34 +25,25 @@ pub use room::check_room;
 // Document 01's longest description.
 const MOST_BYTES: usize = 1048576;
 
-fn after_look(late: Refusal, words: u64) -> Form
-    ensures { result ≡ after_look late words }
-{
-    if late.number == 0 {
-        return Form::Fine(words);
-    }
-    Form::Refused(late)
-}
-
 // After the last field: no header or a chunk missing is 1; then the late looks.
-fn finish(s: &[u8], scan: Scan) -> Form
+fn finish(s: &[u8], scan: Scan) -> Result<u64, Refusal>
     requires { (length s.now ≤ most_bytes) × Bounded scan (2 ^ 31)
         × (counted s.now 0 0 (fields_from s.now 0) ≡ true) }
     ensures { result ≡ finished s.now scan }
 {
     if (scan.place == 0) | (scan.seen < scan.chunks) {
-        return Form::Refused(nowhere(1, 0));
+        return Err(nowhere(1, 0));
     }
-    let late = late_look(s, scan.signatures);
-    after_look(late, 16 * scan.cells)
+    late_look(s, scan.signatures)?;
+    Ok(16 * scan.cells)
 }
 
 // All fields of a description, one by one.
-fn read_all(s: &[u8]) -> Form
+fn read_all(s: &[u8]) -> Result<u64, Refusal>
     ensures { result ≡ form_of s.now }
 {
     if MOST_BYTES < s.len() {
-        return Form::Refused(nowhere(2, 0));
+        return Err(nowhere(2, 0));
     }
     let mut at: usize = 0;
     let mut scan = Scan {
@@ -68,21 +59,14 @@ fn read_all(s: &[u8]) -> Form
         cells: 0,
     };
     while at < s.len() {
-        match field_step(s, at, scan) {
-            ScanStep::Stop(r) => {
-                return Form::Refused(r);
-            }
-            ScanStep::Go(next) => {
-                scan = next;
-                at = place_after(s, at);
-            }
-        }
+        scan = field_step(s, at, scan)?;
+        at = place_after(s, at);
     }
     finish(s, scan)
 }
 
 // The form of what stands from a place on, taken as a description.
-fn scan_from(s: &[u8], at: usize) -> Form
+fn scan_from(s: &[u8], at: usize) -> Result<u64, Refusal>
     ensures { result ≡ form_of (left s.now at) }
 {
     let n = s.len();
@@ -93,14 +77,14 @@ fn scan_from(s: &[u8], at: usize) -> Form
 }
 
 // The form of what a reader has left to read.
-pub fn scan<'a>(r: Reader<'a>) -> Form
+pub fn scan<'a>(r: Reader<'a>) -> Result<u64, Refusal>
     ensures { result ≡ form_of (left r.entry.src.now r.entry.at) }
 {
     scan_from(r.src, r.at)
 }
 
 // The form of a whole description: a reader starts, and has all of it left.
-pub fn check_form(s: &[u8]) -> Form
+pub fn check_form(s: &[u8]) -> Result<u64, Refusal>
     ensures { result ≡ form_of s.now }
 {
     scan(start(s))

@@ -3,25 +3,22 @@ ghost use Rattle.std.specs.Prelude.{◌≡◌};
 ghost use Rattle.form.specs.room.Room.{with_room, room_of};
 
 use crate::check_form;
-use answers::nowhere;
-use definition::Form;
+use answers::{Refusal, nowhere};
 
 // W + 1 words are the least.
-fn with_room(w: u64, words: usize) -> Form
+fn with_room(w: u64, words: usize) -> Result<u64, Refusal>
     ensures { result ≡ with_room w words }
 {
     if (words as u64) <= w {
-        return Form::Refused(nowhere(5, 0));
+        return Err(nowhere(5, 0));
     }
-    Form::Fine(w)
+    Ok(w)
 }
 
 // W, where the description has good form and there is room, or the refusal.
-pub fn check_room(s: &[u8], words: usize) -> Form
+pub fn check_room(s: &[u8], words: usize) -> Result<u64, Refusal>
     ensures { result ≡ room_of s.now words }
 {
-    match check_form(s) {
-        Form::Refused(r) => Form::Refused(r),
-        Form::Fine(w) => with_room(w, words),
-    }
+    let w = check_form(s)?;
+    with_room(w, words)
 }

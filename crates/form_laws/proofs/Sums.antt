@@ -7,10 +7,10 @@ use mathlib.Core.List.{List, []}
 use lib.Dec.{eqb, ltb}
 use lib.ListN.{length}
 use borrow.Author.Tests.{eqb-true, eqb-false, ltb-false}
+use Rattle.std.proofs.Common.{Ok, Err}
 use Rattle.answers.specs.declared.Refusal.{Refusal}
 use Rattle.description.specs.Fields.{next_at, fields_from, of_tag, chunk_of, param_of}
 use Rattle.definition.specs.declared.Scan.{Scan}
-use Rattle.definition.specs.declared.Form.TheVariants.{Fine, Refused}
 use Rattle.definition.specs.Module.{Line, code_after, signed_params, chunk_from, chunks_from}
 use Rattle.answers.specs.Answers.{nowhere}
 use Rattle.definition.specs.Form.{parameters, late_look, after_look, finished}
@@ -32,17 +32,17 @@ pub record Ended (s : List ℕ) (w : ℕ) (t : Scan) : Type 0 where
   pub words : w ≡ 16 * t.cells
   pub look : (last_look s t.signatures).number ≡ 0
 
-pub ended : (s : List ℕ) (w : ℕ) (t : Scan) → finished s t ≡ Fine w → Ended s w t
+pub ended : (s : List ℕ) (w : ℕ) (t : Scan) → finished s t ≡ Ok w → Ended s w t
 unfolding finished after_look last_look
 ended s w t h = go (eqb t.place 0 || ltb t.seen t.chunks) refl h
   where
     look : ltb t.seen t.chunks ≡ false → (b : Bool) → eqb (last_look s t.signatures).number 0 ≡ b
-        → cond b (Fine (16 * t.cells)) (Refused (last_look s t.signatures)) ≡ Fine w → Ended s w t
+        → cond b (Ok (16 * t.cells)) (Err (last_look s t.signatures)) ≡ Ok w → Ended s w t
     look q true e h = record { seen = ltb-false t.seen t.chunks q; words = cc; look = eqb-true (last_look s t.signatures).number 0 e }
     look q false e h = never (cc)
 
     go : (b : Bool) → (eqb t.place 0 || ltb t.seen t.chunks) ≡ b
-        → cond b (Refused (nowhere 1 0)) (cond (eqb (last_look s t.signatures).number 0) (Fine (16 * t.cells)) (Refused (last_look s t.signatures))) ≡ Fine w
+        → cond b (Err (nowhere 1 0)) (cond (eqb (last_look s t.signatures).number 0) (Ok (16 * t.cells)) (Err (last_look s t.signatures))) ≡ Ok w
         → Ended s w t
     go true e h = never (cc)
     go false e h = look (or_right (eqb t.place 0) _ e) (eqb (last_look s t.signatures).number 0) refl h

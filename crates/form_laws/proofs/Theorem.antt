@@ -7,10 +7,10 @@ use mathlib.Core.List.{List}
 use lib.Dec.{ltb}
 use lib.ListN.{length, get_or, length-map}
 use borrow.Author.Tests.{le-ltb}
+use Rattle.std.proofs.Common.{Ok}
 use Rattle.le.specs.Le.{at8}
 use Rattle.description.specs.Fields.{tag_at, next_at, fields_from, of_tag, header_of, chunk_of, tags_at, instr_of}
 use Rattle.definition.specs.declared.Scan.{Scan}
-use Rattle.definition.specs.declared.Form.TheVariants.{Fine}
 use Rattle.definition.specs.Module.{Module, Chunk, line_of, signed_params, code_after, chunk_from, chunks_from, module_from, module_of}
 use Rattle.definition.specs.Leaves.{no_line, line_at}
 use Rattle.definition.specs.Form.{past_chunk, form_of}
@@ -162,5 +162,5 @@ module _ (s : List ℕ) (w : ℕ) (st : Starts s w) where
         shared_at = λ k h. shared.place k (rw length-map at h);
       }
 
-pub good-form : (s : List ℕ) (w : ℕ) → form_of s ≡ Fine w → Good s w
+pub good-form : (s : List ℕ) (w : ℕ) → form_of s ≡ Ok w → Good s w
 good-form s w h = so-good s w (starts s w h)

@@ -5,20 +5,16 @@ ghost use Rattle.definition.specs.Form.{tags_fine, shapes_fine, chunk_len, signa
 
 use crate::shape_fine;
 use description::{params_at, params_of, shape_at, tags_at};
-use le::{u8_at, wide_size};
+use le::u8_at;
 
 // The type tags from here on, so many of them, are places of TypeTag.
 fn tags_fine(s: &[u8], from: usize, count: usize) -> bool
     requires { (from < 2 ^ 62) × (count ≤ 256) }
     ensures { result ≡ tags_fine s.now from count }
 {
-    let mut q = from;
-    let mut left = count;
     let mut fine = true;
-    while 0 < left {
-        fine = fine & (u8_at(s, q) < 8);
-        q += 1;
-        left -= 1;
+    for k in 0..count {
+        fine = fine & (u8_at(s, from + k) < 8);
     }
     fine
 }
@@ -28,13 +24,9 @@ fn shapes_fine(s: &[u8], from: usize, count: usize) -> bool
     requires { (from < 2 ^ 62) × (count ≤ 256) }
     ensures { result ≡ shapes_fine s.now from count }
 {
-    let mut q = from;
-    let mut left = count;
     let mut fine = true;
-    while 0 < left {
-        fine = fine & shape_fine(shape_at(s, q));
-        q += 7;
-        left -= 1;
+    for k in 0..count {
+        fine = fine & shape_fine(shape_at(s, from + 7 * k));
     }
     fine
 }
@@ -45,9 +37,9 @@ fn chunk_len(s: &[u8], p: usize, signed: bool, tags: u8) -> usize
     ensures { result ≡ chunk_len s.now p signed tags }
 {
     if signed {
-        return 16 + wide_size(tags) + 7 * wide_size(params_of(s, p));
+        return 16 + usize::from(tags) + 7 * usize::from(params_of(s, p));
     }
-    8 + wide_size(tags)
+    8 + usize::from(tags)
 }
 
 fn signature_fine(s: &[u8], p: usize, signed: bool) -> bool
@@ -55,7 +47,7 @@ fn signature_fine(s: &[u8], p: usize, signed: bool) -> bool
     ensures { result ≡ signature_fine s.now p signed }
 {
     if signed {
-        return shapes_fine(s, params_at(s, p) + 1, wide_size(params_of(s, p)) + 1);
+        return shapes_fine(s, params_at(s, p) + 1, usize::from(params_of(s, p)) + 1);
     }
     true
 }
@@ -74,7 +66,7 @@ pub fn contents_fine(s: &[u8], p: usize, len: u16, signed: bool, tags: u8) -> bo
         && signature_fine s.now p signed) }
 {
     let whole = same_length(chunk_len(s, p, signed, tags), len);
-    let tagged = tags_fine(s, tags_at(p), wide_size(tags));
+    let tagged = tags_fine(s, tags_at(p), usize::from(tags));
     let shaped = signature_fine(s, p, signed);
     whole & tagged & shaped
 }

@@ -4,7 +4,7 @@
 
 ghost use Rattle.std.specs.Prelude.{◌≡◌, length};
 
-use definition::Form;
+use answers::Refusal;
 use form::check_form;
 use le::{u8_at, u16_at, u32_at};
 use std::io;
@@ -29,32 +29,28 @@ fn put(to: &mut [u8], n: usize, x: u8) -> usize {
 
 // Puts the bytes of from, the first at first and the last before end, behind the first n.
 fn append(to: &mut [u8], n: usize, from: &[u8], first: usize, end: usize) -> usize {
-    let mut k = first;
     let mut m = n;
-    while k < end {
+    for k in first..end {
         m = put(to, m, u8_at(from, k));
-        k += 1;
     }
     m
 }
 
 fn append_often(to: &mut [u8], n: usize, from: &[u8], end: usize, times: u32) -> usize {
-    let mut left = times;
     let mut m = n;
-    while 0 < left {
+    for _ in 0..times {
         m = append(to, m, from, 0, end);
-        left -= 1;
     }
     m
 }
 
 // Whether the answer is the stored one.
-fn agrees(f: Form, stored: &[u8]) -> bool {
+fn agrees(f: Result<u64, Refusal>, stored: &[u8]) -> bool {
     match f {
-        Form::Fine(words) => (u8_at(stored, 0) == 0)
+        Ok(words) => (u8_at(stored, 0) == 0)
             & (words == (u32_at(stored, 5) as u64))
             & (u32_at(stored, 9) == 0),
-        Form::Refused(r) => (u8_at(stored, 0) == r.number)
+        Err(r) => (u8_at(stored, 0) == r.number)
             & (u16_at(stored, 1) == r.chunk)
             & (u16_at(stored, 3) == r.instruction),
     }
@@ -143,14 +139,15 @@ fn main(rt: HostRuntime) -> io::Result<()> {
     let mut base = [0u8; 16384];
     let mut part = [0u8; 16384];
     let mut work = space();
-    let mut left: u32 = 1000000;
     let mut r = Replay {
         base: 0,
         tally: begun(),
     };
-    while 0 < left {
+    for _ in 0..1000000u32 {
         r = turn(&rt, &mut input, &mut base, &mut part, &mut work, r)?;
-        left = if r.tally.more { left - 1 } else { 0 };
+        if !r.tally.more {
+            break;
+        }
     }
     say(&rt, r.tally)
 }

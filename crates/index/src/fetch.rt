@@ -1,6 +1,5 @@
 // An instruction, read from its field.
 ghost use Rattle.std.specs.Prelude.{◌≡◌, ◌+◌, ◌*◌, ◌<◌, ◌≤◌, ◌^◌, length};
-ghost use Rattle.le.specs.Le.{at32};
 ghost use Rattle.description.specs.Fields.{instr_of};
 ghost use Rattle.definition.specs.Module.{module_of};
 ghost use Rattle.form_laws.specs.Good.{chunk_no};
@@ -10,15 +9,7 @@ ghost use Rattle.definition.specs.Leaves.{line_at};
 use crate::access::field_of;
 use description::{Instr, instr_at};
 use layout::Chunk;
-use le::wide32;
-
-// A number of four bytes within the description.
-fn four(s: &[u8], p: usize) -> u32
-    requires { p + 4 ≤ length s.now }
-    ensures { result ≡ at32 s.now p }
-{
-    wide32(s[p]) + 256 * wide32(s[p + 1]) + 65536 * wide32(s[p + 2]) + 16777216 * wide32(s[p + 3])
-}
+use le::u32_inside;
 
 // An instruction's field within the description: one test for all its bytes.
 fn instr_in(s: &[u8], p: usize) -> Instr
@@ -29,9 +20,9 @@ fn instr_in(s: &[u8], p: usize) -> Instr
         op: s[p + 3],
         taken: s[p + 4],
         given: s[p + 5],
-        a: four(s, p + 6),
-        b: four(s, p + 10),
-        c: four(s, p + 14),
+        a: u32_inside(s, p + 6),
+        b: u32_inside(s, p + 10),
+        c: u32_inside(s, p + 14),
     }
 }
 

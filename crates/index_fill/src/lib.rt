@@ -18,7 +18,7 @@ use description::{chunk_head_at, header_at, next_at, tag_at};
 use layout::{
     Chunk, HEAD_WORDS, ROW_FIELD, Tables, WORD_COUNT, WORD_SUSPENDS, numbers_at, slot_at,
 };
-use le::{u8_at, u16_at, wide_size};
+use le::{u8_at, u16_at};
 use masks::Mask;
 pub use model::FillState;
 use words::{clear, put_words};
@@ -71,7 +71,7 @@ fn numbers_of(s: &[u8], p: usize, t: Tables, w: FillState) -> Chunk
     let h = chunk_head_at(s, p);
     let locals = h.locals as usize;
     let stack = h.stack as usize;
-    let params = wide_size(params_in(s, p, w.seen < t.signatures));
+    let params = usize::from(params_in(s, p, w.seen < t.signatures));
     Chunk {
         at: p,
         rows: w.free + 16 * (params + 1),
@@ -87,12 +87,6 @@ fn numbers_of(s: &[u8], p: usize, t: Tables, w: FillState) -> Chunk
     }
 }
 
-fn number(b: bool) -> u32
-    ensures { result ≡ bit b }
-{
-    if b { 1 } else { 0 }
-}
-
 fn number_words(c: Chunk) -> [u32; 10]
     requires { Small c }
     ensures { result ≡ number_words c }
@@ -103,11 +97,11 @@ fn number_words(c: Chunk) -> [u32; 10]
         c.count as u32,
         c.locals as u32,
         c.stack as u32,
-        number(c.reachable),
-        number(c.suspends),
+        u32::from(c.reachable),
+        u32::from(c.suspends),
         c.inputs as u32,
         c.params as u32,
-        number(c.streams),
+        u32::from(c.streams),
     ]
 }
 
@@ -287,11 +281,9 @@ fn unmark(ws: &mut [u32], t: Tables)
     requires { ForSlots t (length ws.old) }
     ensures { ws.new ≡ unmarked_words t t.slots ws.old }
 {
-    let mut slot = 0;
-    while slot < t.slots {
+    for slot in 0..t.slots {
         let at = slot_at(t, slot) + 15;
         ws[at] = ws[at] % 65536;
-        slot += 1;
     }
 }
 

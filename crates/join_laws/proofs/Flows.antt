@@ -1,4 +1,5 @@
 -- The laws of flows and their parts.
+use Rattle.std.specs.Prelude.{ℕ, Option, None, Some}
 use mathlib.Core.Path.{◌≡◌, refl, ap, ap₂}
 use mathlib.Core.Bool.{Bool, true, false}
 use lib.Dec.{eqb}
@@ -6,10 +7,6 @@ use borrow.Author.Tests.{eq-eqb, eqb-true}
 use Rattle.masks.proofs.Both.{both, never}
 use Rattle.extents.specs.Extent.{same_bodies}
 use Rattle.flows.specs.Flow.{same_bool, join_owned, same_owned, join_origin, same_origin, join_predicate, same_predicate, join_flow, same_flow, joined_flow}
-use Rattle.flows.specs.declared.Owned.{Owned}
-use Rattle.flows.specs.declared.Owned.TheVariants.{No, Yes}
-use Rattle.flows.specs.declared.Origin.{Origin}
-use Rattle.flows.specs.declared.Origin.TheVariants.{Nowhere, Local}
 use Rattle.flows.specs.declared.Predicate.{Predicate}
 use Rattle.flows.specs.declared.Predicate.TheVariants.{Nothing as Untested, Tests}
 use Rattle.flows.specs.declared.Flow.{Flow}
@@ -19,52 +16,52 @@ use Rattle.join_laws.proofs.Flat.{flat-joins}
 use Rattle.join_laws.proofs.Extents.{bodies-joins, bodies-equals}
 
 -- ---- owned
-owned-idem : (x : Owned) → join_owned x x ≡ x
-owned-idem Yes = refl
-owned-idem No = refl
+owned-idem : (x : Bool) → join_owned x x ≡ x
+owned-idem true = refl
+owned-idem false = refl
 
-owned-comm : (x y : Owned) → join_owned x y ≡ join_owned y x
-owned-comm Yes Yes = refl
-owned-comm Yes No = refl
-owned-comm No Yes = refl
-owned-comm No No = refl
+owned-comm : (x y : Bool) → join_owned x y ≡ join_owned y x
+owned-comm true true = refl
+owned-comm true false = refl
+owned-comm false true = refl
+owned-comm false false = refl
 
-owned-assoc : (x y z : Owned) → join_owned (join_owned x y) z ≡ join_owned x (join_owned y z)
-owned-assoc Yes y z = refl
-owned-assoc No y z = refl
+owned-assoc : (x y z : Bool) → join_owned (join_owned x y) z ≡ join_owned x (join_owned y z)
+owned-assoc true y z = refl
+owned-assoc false y z = refl
 
 pub owned-joins : Joins join_owned
 owned-joins = record { idem = owned-idem; comm = owned-comm; assoc = owned-assoc }
 
-owned-sound : (x y : Owned) → same_owned x y ≡ true → x ≡ y
-owned-sound Yes Yes h = refl
-owned-sound Yes No h = never h
-owned-sound No Yes h = never h
-owned-sound No No h = refl
+owned-sound : (x y : Bool) → same_owned x y ≡ true → x ≡ y
+owned-sound true true h = refl
+owned-sound true false h = never h
+owned-sound false true h = never h
+owned-sound false false h = refl
 
-owned-whole : (x : Owned) → same_owned x x ≡ true
-owned-whole Yes = refl
-owned-whole No = refl
+owned-whole : (x : Bool) → same_owned x x ≡ true
+owned-whole true = refl
+owned-whole false = refl
 
 pub owned-equals : Equals same_owned
 owned-equals = record { sound = owned-sound; whole = owned-whole }
 
 -- ---- origin
-origin-sound : (x y : Origin) → same_origin x y ≡ true → x ≡ y
-origin-sound Nowhere Nowhere h = refl
-origin-sound Nowhere (Local b) h = never h
-origin-sound (Local a) Nowhere h = never h
-origin-sound (Local a) (Local b) h = ap Local (eqb-true a b h)
+origin-sound : (x y : Option ℕ) → same_origin x y ≡ true → x ≡ y
+origin-sound None None h = refl
+origin-sound None (Some b) h = never h
+origin-sound (Some a) None h = never h
+origin-sound (Some a) (Some b) h = ap Some (eqb-true a b h)
 
-origin-whole : (x : Origin) → same_origin x x ≡ true
-origin-whole Nowhere = refl
-origin-whole (Local a) = eq-eqb a a refl
+origin-whole : (x : Option ℕ) → same_origin x x ≡ true
+origin-whole None = refl
+origin-whole (Some a) = eq-eqb a a refl
 
 pub origin-equals : Equals same_origin
 origin-equals = record { sound = origin-sound; whole = origin-whole }
 
 pub origin-joins : Joins join_origin
-origin-joins = flat-joins same_origin Nowhere origin-equals
+origin-joins = flat-joins same_origin None origin-equals
 
 -- ---- predicate
 pub bool-sound : (x y : Bool) → same_bool x y ≡ true → x ≡ y

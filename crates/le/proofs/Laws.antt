@@ -8,12 +8,6 @@ use lib.ListN.{length, take, drop, set, length-append}
 use lib.Seq.{sets, sets-eq, length-sets}
 use Rattle.le.specs.Wrote.{put, WroteN}
 
-pub add-two : (n : ℕ) → n + 2 ≡ suc (suc n)
-add-two n = omega arith
-
-pub add-three : (n : ℕ) → n + 3 ≡ suc (suc (suc n))
-add-three n = omega arith
-
 sets-sets : (l : List ℕ) (i : ℕ) (a b : List ℕ) → sets (sets l i a) (i + length a) b ≡ sets l i (a ++ b)
 sets-sets l i [] b = rw add-zero
 sets-sets l i (x ∷ a) b = rw (add-suc i (length a), ← suc-add i (length a)) (sets-sets (set l i x) (suc i) a b)

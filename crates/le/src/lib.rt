@@ -11,49 +11,23 @@ pub fn u8_at(s: &[u8], at: usize) -> u8
     if at < s.len() { s[at] } else { 0 }
 }
 
-// A byte as a wider number, one function for each width. A call asks nothing, where a cast asks that the byte fits.
-pub fn wide16(x: u8) -> u16
-    ensures { (result ≡ x) × (result < 256) }
-{
-    x as u16
-}
-
-pub fn wide32(x: u8) -> u32
-    ensures { (result ≡ x) × (result < 256) }
-{
-    x as u32
-}
-
-pub fn wide64(x: u8) -> u64
-    ensures { (result ≡ x) × (result < 256) }
-{
-    x as u64
-}
-
-pub fn wide_size(x: u8) -> usize
-    ensures { (result ≡ x) × (result < 256) }
-{
-    x as usize
-}
-
 pub fn u16_at(s: &[u8], at: usize) -> u16
     requires { at + 1 < 2 ^ 64 }
     ensures { result ≡ at16 s.now at }
 {
-    let a = wide16(u8_at(s, at));
-    let b = wide16(u8_at(s, at + 1));
-    a + 256 * b
+    u16::from_le_bytes([u8_at(s, at), u8_at(s, at + 1)])
 }
 
 pub fn u32_at(s: &[u8], at: usize) -> u32
     requires { at + 3 < 2 ^ 64 }
     ensures { result ≡ at32 s.now at }
 {
-    let a = wide32(u8_at(s, at));
-    let b = wide32(u8_at(s, at + 1));
-    let c = wide32(u8_at(s, at + 2));
-    let d = wide32(u8_at(s, at + 3));
-    a + 256 * b + 65536 * c + 16777216 * d
+    u32::from_le_bytes([
+        u8_at(s, at),
+        u8_at(s, at + 1),
+        u8_at(s, at + 2),
+        u8_at(s, at + 3),
+    ])
 }
 
 // The same where all the bytes are there: none is asked about.
@@ -61,20 +35,23 @@ pub fn u16_inside(s: &[u8], at: usize) -> u16
     requires { at + 2 ≤ length s.now }
     ensures { result ≡ at16 s.now at }
 {
-    let a = wide16(s[at]);
-    let b = wide16(s[at + 1]);
-    a + 256 * b
+    u16::from_le_bytes([s[at], s[at + 1]])
 }
 
 pub fn u32_inside(s: &[u8], at: usize) -> u32
     requires { at + 4 ≤ length s.now }
     ensures { result ≡ at32 s.now at }
 {
-    let a = wide32(s[at]);
-    let b = wide32(s[at + 1]);
-    let c = wide32(s[at + 2]);
-    let d = wide32(s[at + 3]);
-    a + 256 * b + 65536 * c + 16777216 * d
+    u32::from_le_bytes([s[at], s[at + 1], s[at + 2], s[at + 3]])
+}
+
+// The bytes from the place on.
+fn put<const N: usize>(buf: &mut [u8], at: usize, bytes: &[u8; N]) -> usize
+    requires { at + N ≤ length buf.old }
+    ensures { WroteN buf.old at N bytes.now buf.new result }
+{
+    buf[at..at + N].copy_from_slice(bytes);
+    at + N
 }
 
 // Each write answers the place after it.
@@ -90,18 +67,12 @@ pub fn put16(buf: &mut [u8], at: usize, x: u16) -> usize
     requires { at + 2 ≤ length buf.old }
     ensures { WroteN buf.old at 2 (le16 x) buf.new result }
 {
-    buf[at] = (x % 256) as u8;
-    buf[at + 1] = (x / 256) as u8;
-    at + 2
+    put(buf, at, &u16::to_le_bytes(x))
 }
 
 pub fn put32(buf: &mut [u8], at: usize, x: u32) -> usize
     requires { at + 4 ≤ length buf.old }
     ensures { WroteN buf.old at 4 (le32 x) buf.new result }
 {
-    buf[at] = (x % 256) as u8;
-    buf[at + 1] = (x / 256 % 256) as u8;
-    buf[at + 2] = (x / 65536 % 256) as u8;
-    buf[at + 3] = (x / 16777216) as u8;
-    at + 4
+    put(buf, at, &u32::to_le_bytes(x))
 }

@@ -1,9 +1,8 @@
 -- Document 01's listing of an answer and its report: what the program `factlist` prints. Text is ASCII codes.
-use Rattle.std.specs.Prelude.{ℕ, zero, suc, ◌+◌, ◌*◌, cond, List, [], ◌∷◌, ◌++◌, eqb, ltb, length, take}
+use Rattle.std.specs.Prelude.{ℕ, zero, suc, ◌+◌, ◌*◌, cond, List, [], ◌∷◌, ◌++◌, eqb, ltb, length, take, Result, Ok, Err}
 use Rattle.le.specs.Le.{at8, at16, at32}
 use Rattle.answers.specs.declared.Refusal.{Refusal}
-use Rattle.answers.specs.declared.Answer.{Answer}
-use Rattle.answers.specs.declared.Answer.TheVariants.{Accepted, Refused}
+use Rattle.answers.specs.declared.Accepted.{Accepted}
 use Rattle.description.specs.Fields.{tag_at, next_at, fields_from}
 use Rattle.listing.specs.Decimal.{decimal}
 
@@ -87,6 +86,6 @@ lines_of steps s [] = []
 lines_of steps s (p ∷ ps) = cond (ltb (length s) (next_at s p)) [] (field_line steps s p ++ lines_of steps s ps)
 
 -- s is the report buffer, of which the answer says how much the report is
-unfoldable pub listing : Answer → List ℕ → List ℕ
-listing (Refused r) s = refused_line r
-listing (Accepted long steps) s = lines_of steps (take long s) (fields_from (take long s) 0)
+unfoldable pub listing : Result Accepted Refusal → List ℕ → List ℕ
+listing (Err r) s = refused_line r
+listing (Ok a) s = lines_of a.steps (take a.length s) (fields_from (take a.length s) 0)

@@ -8,7 +8,7 @@ ghost use Rattle.listing.specs.Listing.{spaced as spacedOf, pair_of, last_of, re
 ghost use Rattle.listing.specs.Laid.{Laid};
 ghost use Rattle.description.specs.Fields.{next_at, fields_from};
 
-use answers::{Answer, Refusal};
+use answers::{Accepted, Refusal};
 use le::{u8_at, u16_at, u32_at};
 
 fn push(buf: &mut [u8], at: usize, x: u8) -> usize
@@ -26,11 +26,9 @@ fn append(buf: &mut [u8], at: usize, from: &[u8]) -> usize
     requires { at ≤ length buf.old }
     ensures { Laid buf.old at from.now buf.new result }
 {
-    let mut k = 0;
     let mut to = at;
-    while k < from.len() {
-        to = push(buf, to, from[k]);
-        k += 1;
+    for byte in from {
+        to = push(buf, to, *byte);
     }
     to
 }
@@ -51,12 +49,10 @@ fn number(buf: &mut [u8], at: usize, n: u32) -> usize
     ensures { Laid buf.old at (decimal n) buf.new result }
 {
     let mut p: u32 = 1000000000;
-    let mut k: u32 = 9;
     let mut to = at;
-    while 0 < k {
+    for k in 0..9u32 {
         to = digit(buf, to, n, p);
         p /= 10;
-        k -= 1;
     }
     push(buf, to, 48 + (n % 10) as u8)
 }
@@ -112,13 +108,9 @@ fn masks_from(s: &[u8], q: usize, n: usize, buf: &mut [u8], at: usize) -> usize
     requires { (at ≤ length buf.old) × (q + 49 * n + 1 < 2 ^ 64) }
     ensures { Laid buf.old at (masks_from s.now q n) buf.new result }
 {
-    let mut left = n;
-    let mut p = q;
     let mut to = at;
-    while 0 < left {
-        to = spaced(buf, to, u16_at(s, p) as u32);
-        p += 49;
-        left -= 1;
+    for k in 0..n {
+        to = spaced(buf, to, u16_at(s, q + 49 * k) as u32);
     }
     to
 }
@@ -230,11 +222,11 @@ fn first(s: &[u8], n: usize) -> &[u8]
 }
 
 // Lays the listing into the text, as far as it goes, and answers how many bytes of it stand there.
-pub fn list(answer: Answer, report: &[u8], text: &mut [u8]) -> usize
+pub fn list(answer: Result<Accepted, Refusal>, report: &[u8], text: &mut [u8]) -> usize
     ensures { Laid text.old 0 (listingOf answer report.now) text.new result }
 {
     match answer {
-        Answer::Refused(r) => refused(text, 0, r),
-        Answer::Accepted { length, steps } => lines(steps, first(report, length), text),
+        Err(r) => refused(text, 0, r),
+        Ok(Accepted { length, steps }) => lines(steps, first(report, length), text),
     }
 }

@@ -10,6 +10,7 @@ use mathlib.Core.List.{List, [], ◌∷◌, ◌++◌}
 use lib.Dec.{ltb}
 use lib.ListN.{length, take, drop, replicate, length-append}
 use borrow.Author.Tests.{ltb-false}
+use Rattle.std.specs.Prelude.{Result, Ok, Err}
 use Rattle.masks.specs.Mask.{same}
 use Rattle.masks.specs.Names.{FALSE, TRUE}
 use Rattle.masks.proofs.Both.{never}
@@ -18,9 +19,10 @@ use Rattle.widths.specs.declared.Width.TheVariants.{Unknown as Wide, Scalar, Bod
 use Rattle.cells.specs.declared.Cell.{Cell}
 use Rattle.ops.specs.Ops.{rule_of}
 use Rattle.le.specs.Le.{at16, le16, le32}
-use Rattle.answers.specs.Answers.{nowhere}
-use Rattle.answers.specs.declared.Answer.{Answer}
-use Rattle.answers.specs.declared.Answer.TheVariants.{Accepted, Refused}
+use Rattle.answers.specs.Answers.{nowhere, accepts}
+use Rattle.answers.proofs.Told.{accepts-same}
+use Rattle.answers.specs.declared.Accepted.{Accepted}
+use Rattle.answers.specs.declared.Refusal.{Refusal}
 use Rattle.description.specs.Fields.{next_at}
 use Rattle.definition.specs.Module.{Chunk, module_of}
 use Rattle.definition.specs.State.{State}
@@ -291,17 +293,17 @@ decided-few s words limit n r e =
     )
 
 -- an accepted report lies in its buffer
-accepted-room : (d : Decided) (ws buf : List ℕ) (long steps : ℕ) → (outcome_of d ws buf).answer ≡ Accepted long steps → long ≤ length buf
+accepted-room : (d : Decided) (ws buf : List ℕ) (long steps : ℕ) → (outcome_of d ws buf).answer ≡ accepts long steps → long ≤ length buf
 unfolding outcome_of delivered turned_back
 accepted-room (turned r) ws buf long steps h = never (cc)
 accepted-room (reported r k) ws buf long steps h = go (ltb (length buf) (length (report_bytes r))) refl h
   where
     sent : Outcome
-    sent = record { answer = Accepted (length (report_bytes r)) k; report = report_bytes r ++ drop (length (report_bytes r)) buf; workspace = replicate (length ws) 0 }
+    sent = record { answer = accepts (length (report_bytes r)) k; report = report_bytes r ++ drop (length (report_bytes r)) buf; workspace = replicate (length ws) 0 }
 
-    go : (b : Bool) → ltb (length buf) (length (report_bytes r)) ≡ b → (cond b (turned_back (nowhere 6 k) ws buf) sent).answer ≡ Accepted long steps → long ≤ length buf
+    go : (b : Bool) → ltb (length buf) (length (report_bytes r)) ≡ b → (cond b (turned_back (nowhere 6 k) ws buf) sent).answer ≡ accepts long steps → long ≤ length buf
     go true e h = never (cc)
-    go false e h = let l : length (report_bytes r) ≡ long = cc in omega (arith, ltb-false (length buf) (length (report_bytes r)) e)
+    go false e h = omega (arith, (accepts-same h).0, ltb-false (length buf) (length (report_bytes r)) e)
 
 -- THEOREM: the listing of a call with a report buffer of 16,384 bytes has at most 65,536
 pub listing-fits : (s ws buf : List ℕ) (limit : ℕ) → length buf ≤ 16384
@@ -309,9 +311,11 @@ pub listing-fits : (s ws buf : List ℕ) (limit : ℕ) → length buf ≤ 16384
 unfolding call listing lines_from
 listing-fits s ws buf limit room = go (call s ws buf limit).answer refl
   where
-    go : (a : Answer) → (call s ws buf limit).answer ≡ a → length (listing a (call s ws buf limit).report) ≤ 65536
-    go (Refused r) e = omega (arith, refused-long r)
-    go (Accepted long steps) e =
+    go : (a : Result Accepted Refusal) → (call s ws buf limit).answer ≡ a → length (listing a (call s ws buf limit).report) ≤ 65536
+    go (Err r) e = omega (arith, refused-long r)
+    go (Ok a) e =
+        let long = a.length in
+        let steps = a.steps in
         let d = accepted-left s ws buf limit long steps e in
         let r : Report = d.report in
         let b : take long (call s ws buf limit).report ≡ report_bytes r = left-bytes _ _ buf long steps d in

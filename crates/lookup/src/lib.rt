@@ -18,7 +18,7 @@ pub struct Part {
 }
 
 // What an index has of a record: the chunk and the instruction that it names, its first byte and its length.
-#[derive(Clone, Copy)]
+#[derive(Clone, Copy, PartialEq, Eq)]
 pub struct Entry {
     pub chunk: u16,
     pub instruction: u16,

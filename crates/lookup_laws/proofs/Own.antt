@@ -12,7 +12,7 @@ use lib.ListN.{length, take, drop, length-append}
 use lib.Seq.{take_at}
 use borrow.Author.Tests.{eq-eqb, lt-ltb, le-ltb}
 use Rattle.le.specs.Le.{le16, le32}
-use Rattle.answers.specs.declared.IndexedAnswer.TheVariants.{Accepted}
+use Rattle.answers.specs.Answers.{accepts_with}
 use Rattle.lookup.specs.declared.Entry.{Entry}
 use Rattle.lookup.specs.Find.{entries_in}
 use Rattle.report_index.specs.Index.{entry_bytes, index_bytes, entry_no, entries_no, entries_of, is_before, rises, matched, agrees}
@@ -114,7 +114,7 @@ pub record LeftBoth (s ws buf idx : List ℕ) (limit long steps n : ℕ) : Type 
   pub index_size : length (index_of (report_bytes report)) ≡ n
   pub index : take n (call_indexed s ws buf idx limit).index ≡ index_of (report_bytes report)
 
-module _ (s ws buf idx : List ℕ) (limit long steps n : ℕ) (h : (call_indexed s ws buf idx limit).answer ≡ Accepted long steps n) where
+module _ (s ws buf idx : List ℕ) (limit long steps n : ℕ) (h : (call_indexed s ws buf idx limit).answer ≡ accepts_with long steps n) where
   pub accepted-both : LeftBoth s ws buf idx limit long steps n
   accepted-both =
       let w = indexed-left s ws buf idx limit long steps n h in

@@ -3,7 +3,7 @@ use Prim.Native.Nat.{ℕ}
 use mathlib.Core.Path.{◌≡◌}
 use mathlib.Core.List.{List, Memᴰ}
 use lib.ListN.{length, take}
-use Rattle.answers.specs.declared.Answer.TheVariants.{Accepted}
+use Rattle.answers.specs.Answers.{accepts}
 use Rattle.definition.specs.Report.{Report, Record, record_bytes, report_bytes}
 use Rattle.definition.specs.Call.{reported, decide, call}
 use Rattle.report_laws.specs.Read.{read_report}
@@ -30,7 +30,7 @@ pub decided-looked : (s : List ℕ) (words limit n : ℕ) (r : Report) → decid
 decided-looked s words limit n r e = looked r (consistent s words limit r n e).arrives.rising
 
 -- and for the first `long` bytes of an accepted call's buffer
-pub accepted-looked : (s ws buf : List ℕ) (limit long steps : ℕ) → (call s ws buf limit).answer ≡ Accepted long steps
+pub accepted-looked : (s ws buf : List ℕ) (limit long steps : ℕ) → (call s ws buf limit).answer ≡ accepts long steps
     → Looked (take long (call s ws buf limit).report) (read_report (take long (call s ws buf limit).report))
 accepted-looked s ws buf limit long steps h =
     let d = accepted-left s ws buf limit long steps h in

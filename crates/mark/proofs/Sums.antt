@@ -1,5 +1,5 @@
 -- Sums of words: one word more, one word changed, zeros.
-use Rattle.std.proofs.Common.{◌≡◌, ℕ, zero, suc, ◌+◌, ◌%◌, ◌<◌, ◌≤◌, List, [], ◌∷◌, length, get_or, take, set, replicate, refl, ap, add-one, arith, take_all}
+use Rattle.std.proofs.Common.{◌≡◌, ℕ, zero, suc, ◌+◌, ◌%◌, ◌<◌, List, [], ◌∷◌, length, get_or, take, set, replicate, refl, add-one, arith}
 use Rattle.mark.specs.Marks.{word_range, sum}
 
 pub sum-none : (ws : List ℕ) → 0 ≡ sum (take 0 ws) % word_range
@@ -15,10 +15,6 @@ sum-take (x ∷ xs) (suc i) h = let e = sum-take xs i (omega arith) in omega ari
 -- one word more
 pub sum_more : (ws : List ℕ) (i t : ℕ) → i < length ws → t ≡ sum (take i ws) % word_range → (t + get_or ws i 0) % word_range ≡ sum (take (i + 1) ws) % word_range
 sum_more ws i t h e = rw (add-one i) (let q = sum-take ws i h in omega arith)
-
--- all words
-pub sum-all : (ws : List ℕ) (i : ℕ) → length ws ≤ i → sum (take i ws) % word_range ≡ sum ws % word_range
-sum-all ws i h = ap (λ (l : List ℕ). sum l % word_range) (take_all i ws h)
 
 -- one word changed
 pub sum-set : (ws : List ℕ) (j x : ℕ) → j < length ws → sum (set ws j x) + get_or ws j 0 ≡ sum ws + x

@@ -13,10 +13,8 @@ fn sum_of(ws: &[u32]) -> u32
     ensures { result ≡ sum ws.now % word_range }
 {
     let mut total: u32 = 0;
-    let mut i = 0;
-    while i < ws.len() {
-        total = wrapping_add_u32(total, ws[i]);
-        i += 1;
+    for word in ws {
+        total = wrapping_add_u32(total, *word);
     }
     total
 }

@@ -2,16 +2,16 @@
 #![tactic(auto)]
 
 ghost use Rattle.std.specs.Prelude.{◌≡◌};
-ghost use Rattle.masks.specs.Mask.{scalar, body, kind, union, common, has, within, same, one_kind, operand_kind, constant, immediate};
+ghost use Rattle.masks.specs.Mask.{scalar, body, kind, union, common, has, within, one_kind, operand_kind, constant, immediate};
 
 // The kinds that a value may be of, one bit for each.
-#[derive(Clone, Copy)]
+#[derive(Clone, Copy, PartialEq, Eq)]
 pub struct Mask {
     pub bits: u16,
 }
 
 // The class of an operand, as an untagged native instruction needs it.
-#[derive(Clone, Copy)]
+#[derive(Clone, Copy, PartialEq, Eq)]
 pub enum OperandKind {
     Int,
     Fixed,
@@ -134,12 +134,6 @@ impl Mask {
         ensures { result ≡ within self other }
     {
         (self.bits & other.bits) == self.bits
-    }
-
-    pub fn same(self, other: Mask) -> bool
-        ensures { result ≡ same self other }
-    {
-        self.bits == other.bits
     }
 
     // One kind: a single bit once TRUE is folded into FALSE.

@@ -14,14 +14,14 @@ ghost use Rattle.new_values.specs.Making.{native_by};
 use cells::Cell;
 use description::Instr;
 use extents::Extent;
-use flows::{Flow, Owned};
+use flows::Flow;
 pub use kinds::{bits_mask, negation};
 use masks::Mask;
 pub use results::{rest_output, second_output, with_origin, with_predicate};
 use widths::{Shape, Width};
 
 // A new value of this mask and width.
-pub fn fresh(mask: Mask, width: Width, owned: Owned) -> Cell
+pub fn fresh(mask: Mask, width: Width, owned: bool) -> Cell
     ensures { result ≡ fresh mask width owned }
 {
     Cell {
@@ -39,11 +39,11 @@ pub fn constant_cell(i: Instr, float: u32) -> Cell
     if i.c == 0 {
         return Cell::made(mask, float);
     }
-    fresh(mask, Width::Body(i.c - 1), Owned::No)
+    fresh(mask, Width::Body(i.c - 1), false)
 }
 
 // Field and index reads; owned: of the composite that is read.
-pub fn field_cell(i: Instr, owned: Owned, float: u32) -> Cell
+pub fn field_cell(i: Instr, owned: bool, float: u32) -> Cell
     ensures { result ≡ field_cell i owned float }
 {
     let form = i.a;
@@ -54,10 +54,10 @@ pub fn field_cell(i: Instr, owned: Owned, float: u32) -> Cell
     }
 }
 
-fn owned_if(snapshot: bool) -> Owned
+fn owned_if(snapshot: bool) -> bool
     ensures { result ≡ owned_if snapshot }
 {
-    if snapshot { Owned::Yes } else { Owned::No }
+    snapshot
 }
 
 pub fn native_cell(shape: Shape, snapshot: bool) -> Cell

@@ -4,7 +4,7 @@ ghost use Rattle.definition.specs.Outputs.{with_predicate, with_origin, inspecti
 
 use cells::Cell;
 use description::Instr;
-use flows::{Flow, Origin, Predicate};
+use flows::{Flow, Predicate};
 use masks::Mask;
 use ops::Others;
 
@@ -60,12 +60,12 @@ fn inspection(m: Mask, kind: Mask) -> Mask
 }
 
 // A test for ENUM of a value with an origin remembers the local.
-fn predicate_on(kind: Mask, origin: Origin) -> Predicate
+fn predicate_on(kind: Mask, origin: Option<u16>) -> Predicate
     ensures { result ≡ predicate_on kind origin }
 {
     match origin {
-        Origin::Nowhere => Predicate::Nothing,
-        Origin::Local(receiver) => if kind.same(Mask::ENUM) {
+        None => Predicate::Nothing,
+        Some(receiver) => if kind == Mask::ENUM {
             Predicate::Tests {
                 receiver,
                 when: true,
@@ -88,7 +88,7 @@ fn tested(kind: Mask, receiver: Cell, float: u32) -> Cell
     )
 }
 
-fn with_both(c: Cell, origin: Origin, predicate: Predicate) -> Cell
+fn with_both(c: Cell, origin: Option<u16>, predicate: Predicate) -> Cell
     ensures { result ≡ with_predicate (with_origin c origin) predicate }
 {
     let mask = c.mask;
@@ -116,7 +116,7 @@ pub fn with_predicate(c: Cell, predicate: Predicate) -> Cell
     with_both(c, from, predicate)
 }
 
-pub fn with_origin(c: Cell, origin: Origin) -> Cell
+pub fn with_origin(c: Cell, origin: Option<u16>) -> Cell
     ensures { result ≡ with_origin c origin }
 {
     let f = c.flow;

@@ -28,10 +28,8 @@ fn say(rt: &impl Print, unknown: u32) -> io::Result<()> {
 
 fn main(rt: HostRuntime) -> io::Result<()> {
     let mut unknown: u32 = 0;
-    let mut left: u32 = 65536;
-    while 0 < left {
-        unknown = list(&rt, (65536 - left) as u16, unknown)?;
-        left -= 1;
+    for bits in 0..=u16::MAX {
+        unknown = list(&rt, bits, unknown)?;
     }
     say(&rt, unknown)
 }

@@ -28,7 +28,7 @@ pub const IS_ENUM: u8 = 40;
 pub const IS_STRUCT: u8 = 41;
 
 // The first output.
-#[derive(Clone, Copy)]
+#[derive(Clone, Copy, PartialEq, Eq)]
 pub enum Makes {
     // Of any kind.
     Anything,
@@ -58,7 +58,7 @@ pub enum Makes {
 }
 
 // The outputs after the first.
-#[derive(Clone, Copy)]
+#[derive(Clone, Copy, PartialEq, Eq)]
 pub enum Others {
     Unknowns,
     Words,
@@ -72,7 +72,7 @@ pub enum Others {
 }
 
 // What validation asks of the operands.
-#[derive(Clone, Copy)]
+#[derive(Clone, Copy, PartialEq, Eq)]
 pub enum Asks {
     Free,
     First(Mask),
@@ -93,7 +93,7 @@ pub enum Asks {
 }
 
 // How control leaves.
-#[derive(Clone, Copy)]
+#[derive(Clone, Copy, PartialEq, Eq)]
 pub enum Exit {
     Next,
     Stops,
@@ -104,7 +104,7 @@ pub enum Exit {
 }
 
 // What happens to locals and facts.
-#[derive(Clone, Copy)]
+#[derive(Clone, Copy, PartialEq, Eq)]
 pub enum Acts {
     Still,
     SetsLocal,
@@ -116,14 +116,14 @@ pub enum Acts {
 }
 
 // The slots that are named.
-#[derive(Clone, Copy)]
+#[derive(Clone, Copy, PartialEq, Eq)]
 pub enum Data {
     NoSlot,
     OneSlot,
     ManySlots,
 }
 
-#[derive(Clone, Copy)]
+#[derive(Clone, Copy, PartialEq, Eq)]
 pub struct Rule {
     pub makes: Makes,
     pub others: Others,

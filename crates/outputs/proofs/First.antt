@@ -1,4 +1,5 @@
 -- The first output of a visit, from what the code has: a case for each of its arms.
+use Rattle.std.specs.Prelude.{Some}
 use Prim.Native.Nat.{ℕ, zero, suc, ◌+◌, ◌%◌, ◌<◌, ◌≤◌}
 use native.Mathlib.Omega.{arith}
 use mathlib.Core.Path.{◌≡◌, refl, sym, ap, ◌∙◌}
@@ -10,7 +11,6 @@ use borrow.Author.Tests.{eq-eqb, ne_eqb}
 use Rattle.masks.specs.declared.Mask.{Mask}
 use Rattle.masks.specs.Mask.{of, body, common, immediate}
 use Rattle.masks.specs.Names.{UNKNOWN}
-use Rattle.flows.specs.declared.Origin.TheVariants.{Local}
 use Rattle.flows.specs.Flow.{negated}
 use Rattle.cells.specs.declared.Cell.{Cell}
 use Rattle.cells.specs.Cell.{made}
@@ -146,12 +146,12 @@ module _ (s ws : List ℕ) (v : RowVisit) (x : Looking s ws v) (t : Tables) (e :
 
   -- ---- locals
   pub first-local : (ch : ChunkNumbers) → ch ≡ chunk_at s ws v.chunk → v.rule.makes ≡ NamedLocal
-      → with_origin (cell_at ws (local_at v.row ch.stack v.ins.a)) (Local (v.ins.a % 65536)) ≡ first_output (visit_in s ws v) NamedLocal
+      → with_origin (cell_at ws (local_at v.row ch.stack v.ins.a)) (Some (v.ins.a % 65536)) ≡ first_output (visit_in s ws v) NamedLocal
   first-local ch q m =
       let h = named_in s ws v x ch q m in
       let few : v.ins.a < 65535 = omega (arith, locals-is s ws v.chunk ch q, (x.indexed.good.each_chunk v.chunk x.chunk).locals) in
       rw (local-there s ws v x ch q v.ins.a h)
-      (ap (λ (i : Instr). with_origin (get_or (visit_in s ws v).locals i.a no_cell) (Local (i.a % 65536))) (ins-is s ws v x)
+      (ap (λ (i : Instr). with_origin (get_or (visit_in s ws v).locals i.a no_cell) (Some (i.a % 65536))) (ins-is s ws v x)
       ∙ sym (first-named (visit_in s ws v) (rw (← ins-is s ws v x) few)))
 
   -- ---- slots

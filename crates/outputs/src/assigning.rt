@@ -1,7 +1,6 @@
 // The local that a visit sets, and what is forgotten with it.
-ghost use Rattle.std.specs.Prelude.{◌≡◌, cond, ◌%◌, ◌^◌, ◌<◌, length, get_or};
+ghost use Rattle.std.specs.Prelude.{◌≡◌, cond, ◌%◌, ◌^◌, ◌<◌, length, get_or, None};
 ghost use Rattle.std.proofs.Math.Option.{none};
-ghost use Rattle.flows.specs.declared.Origin.TheVariants.{Nowhere};
 ghost use Rattle.cells.specs.Cell.{made, invalidated_cell};
 ghost use Rattle.description.specs.Fields.{reply_of};
 ghost use Rattle.ops.specs.declared.Acts.TheVariants.{Calls};
@@ -15,7 +14,6 @@ ghost use Rattle.row_join.specs.joining.Met.{SetAs};
 
 use crate::reply_cell;
 use cells::Cell;
-use flows::Origin;
 use index::chunk_at;
 use layout::{Chunk, NO_LOCAL, local_at};
 use masks::Mask;
@@ -36,14 +34,14 @@ fn set_none() -> SetLocal
 
 // `SetLocal`: what names the local is forgotten, in the value too.
 fn set_by_value(v: RowVisit, value: Cell) -> SetLocal
-    ensures { (result.local ≡ v.ins.a % 65536) × (result.cell ≡ with_origin (invalidated_cell value (v.ins.a % 65536)) Nowhere) }
+    ensures { (result.local ≡ v.ins.a % 65536) × (result.cell ≡ with_origin (invalidated_cell value (v.ins.a % 65536)) None) }
 {
     let ins = v.ins;
     let local = (ins.a % 65536) as u16;
     let c = value.invalidate(local);
     SetLocal {
         local,
-        cell: with_origin(c, Origin::Nowhere),
+        cell: with_origin(c, None),
     }
 }
 

@@ -3,8 +3,7 @@
 
 mod assigning;
 
-ghost use Rattle.std.specs.Prelude.{◌≡◌, ◌+◌, ◌%◌, ◌^◌, ◌<◌, ◌≤◌, length};
-ghost use Rattle.flows.specs.declared.Origin.TheVariants.{Local};
+ghost use Rattle.std.specs.Prelude.{◌≡◌, ◌+◌, ◌%◌, ◌^◌, ◌<◌, ◌≤◌, length, Some};
 ghost use Rattle.flows.specs.Flow.{negated};
 ghost use Rattle.cells.specs.Cell.{made};
 ghost use Rattle.description.specs.Fields.{reply_of};
@@ -22,7 +21,6 @@ pub use assigning::set_local;
 use cells::{Cell, owned_width};
 use definition::Made;
 use description::site_reply;
-use flows::{Origin, Owned};
 use index::{chunk_at, native_shape, snapshot};
 use layout::{Chunk, Tables, local_at, result_at};
 use masks::Mask;
@@ -52,11 +50,11 @@ fn composite_cell(s: &[u8], ws: &[u32], t: Tables, v: RowVisit) -> Cell
 fn local_cell(ws: &[u32], ch: Chunk, v: RowVisit) -> Cell
     requires a_in_bounds { local_at v.row ch.stack v.ins.a + 16 ≤ length ws.now }
     requires a_bound { local_at v.row ch.stack v.ins.a < 2 ^ 63 }
-    ensures { result ≡ with_origin (cell_at ws.now (local_at v.row ch.stack v.ins.a)) (Local (v.ins.a % 65536)) }
+    ensures { result ≡ with_origin (cell_at ws.now (local_at v.row ch.stack v.ins.a)) (Some (v.ins.a % 65536)) }
 {
     let ins = v.ins;
     let c = load(ws, local_at(ch, v.row, ins.a as usize));
-    with_origin(c, Origin::Local((ins.a % 65536) as u16))
+    with_origin(c, Some((ins.a % 65536) as u16))
 }
 
 fn native_at(s: &[u8], t: Tables, v: RowVisit) -> Cell
@@ -81,7 +79,7 @@ pub fn reply_cell(s: &[u8], v: RowVisit) -> Cell
     fresh(shape.mask(), width, owned_width(width, true))
 }
 
-fn owned_in(c: Cell) -> Owned
+fn owned_in(c: Cell) -> bool
     ensures { result ≡ c.flow.owned }
 {
     let f = c.flow;

@@ -1,6 +1,6 @@
 -- `packed_extent` of types.rs, the float size and the handle size both left open, and the extent of a construction. types.rs has 8 for a
 -- handle (line 195); the size comes from the header since document 02, Two.
-use Rattle.std.specs.Prelude.{ℕ, ◌+◌, ◌-◌, min, max, Bool, cond, not, ◌&&◌, ◌||◌, List, [], ◌∷◌, eqb, ltb, set}
+use Rattle.std.specs.Prelude.{ℕ, ◌+◌, ◌-◌, min, max, Bool, cond, not, ◌&&◌, ◌||◌, List, [], ◌∷◌, eqb, ltb, set, false, None}
 use Rattle.std.specs.Int.Count.{count_trailing_zeros}
 use Rattle.masks.specs.declared.Mask.{Mask}
 use Rattle.masks.specs.Mask.{body, kind, has}
@@ -10,8 +10,6 @@ use Rattle.extents.specs.declared.BodyExtent.{BodyExtent}
 use Rattle.extents.specs.declared.BodyExtent.TheVariants.{Absent, Range, Unknown}
 use Rattle.extents.specs.declared.Extent.{Extent}
 use Rattle.extents.specs.Extent.{exact_width}
-use Rattle.flows.specs.declared.Owned.TheVariants.{No}
-use Rattle.flows.specs.declared.Origin.TheVariants.{Nowhere}
 use Rattle.flows.specs.declared.Predicate.TheVariants.{Nothing as Untested}
 use Rattle.flows.specs.Flow.{absent}
 use Rattle.cells.specs.declared.Cell.{Cell}
@@ -99,8 +97,8 @@ construction k x =
       width = exact_width x;
       flow = record {
         bodies = set (absent ∷ absent ∷ absent ∷ absent ∷ []) (count_trailing_zeros 16 (body k).bits - 8) x;
-        owned = No;
-        origin = Nowhere;
+        owned = false;
+        origin = None;
         predicate = Untested;
       };
     }

@@ -5,8 +5,8 @@ ghost use Rattle.std.specs.Prelude.{◌≡◌};
 ghost use Rattle.packing.specs.Packing.{span_with, scalar_span, body_span, bodies_of, body_kinds, packed_one, and_then, within, constructed, construction};
 
 use cells::Cell;
-use extents::{BodyExtent, Extent, least, most};
-use flows::{Flow, Origin, Owned, Predicate};
+use extents::{BodyExtent, Extent};
+use flows::{Flow, Predicate};
 use masks::Mask;
 
 // The least and the largest packed size, or that there is none.
@@ -24,8 +24,8 @@ fn span_with(sofar: Packed, present: bool, low: u32, high: u32) -> Packed
         Packed::Nothing => Packed::Nothing,
         Packed::Bytes { min, max } => if present {
             Packed::Bytes {
-                min: least(min, low),
-                max: most(max, high),
+                min: min.min(low),
+                max: max.max(high),
             }
         } else {
             Packed::Bytes { min, max }
@@ -148,8 +148,8 @@ pub fn construction(kind: u8, extent: Extent) -> Cell
         width: extent.exact_width(),
         flow: Flow {
             bodies,
-            owned: Owned::No,
-            origin: Origin::Nowhere,
+            owned: false,
+            origin: None,
             predicate: Predicate::Nothing,
         },
     }

@@ -5,36 +5,33 @@ use mathlib.Core.Bool.{Bool, ◌&&◌, ◌||◌}
 use mathlib.Core.List.{List, [], ◌∷◌}
 use lib.Dec.{eqb, ltb}
 use lib.ListN.{length}
+use Rattle.std.proofs.Common.{Result, Ok, Err}
 use Rattle.answers.specs.Answers.{in_field}
 use Rattle.answers.specs.declared.Refusal.{Refusal}
 use Rattle.description.specs.Fields.{tag_at, next_at, fields_from}
 use Rattle.definition.specs.declared.Scan.{Scan}
-use Rattle.definition.specs.declared.ScanStep.{ScanStep}
-use Rattle.definition.specs.declared.ScanStep.TheVariants.{Go, Stop}
-use Rattle.definition.specs.declared.Form.{Form}
-use Rattle.definition.specs.declared.Form.TheVariants.{Fine, Refused}
 use Rattle.definition.specs.Form.{or_stop, header_step, chunk_step, instr_step, site_step, table_step, field_step, late_fault, late_look, after_look, finished, on_step, scan_from, unscanned, form_of}
 use Rattle.refusal_laws.proofs.Only.{either}
 
 -- nothing was taken
-unfoldable Still : Form → Type 0
-Still (Fine w) = Unit {0}
-Still (Refused r) = r.steps ≡ 0
+unfoldable Still : Result ℕ Refusal → Type 0
+Still (Ok w) = Unit {0}
+Still (Err r) = r.steps ≡ 0
 
-unfoldable StillStep : ScanStep → Type 0
-StillStep (Go t) = Unit {0}
-StillStep (Stop r) = r.steps ≡ 0
+unfoldable StillStep : Result Scan Refusal → Type 0
+StillStep (Ok t) = Unit {0}
+StillStep (Err r) = r.steps ≡ 0
 
-go_on : (t : Scan) → StillStep (Go t)
+go_on : (t : Scan) → StillStep (Ok t)
 unfolding StillStep
 go_on t = tt
 
-stopped : (r : Refusal) → r.steps ≡ 0 → StillStep (Stop r)
+stopped : (r : Refusal) → r.steps ≡ 0 → StillStep (Err r)
 unfolding StillStep
 stopped r e = e
 
 -- `or_stop` shut, so that a rewrite finds its arguments
-unfoldable stopping : ℕ → Refusal → Scan → ScanStep
+unfoldable stopping : ℕ → Refusal → Scan → Result Scan Refusal
 stopping n r t = or_stop n r t
 
 is-stopping : (n : ℕ) (r : Refusal) (t : Scan) → or_stop n r t ≡ stopping n r t
@@ -92,10 +89,10 @@ after_look_lem : (r : Refusal) (w : ℕ) → r.steps ≡ 0 → Still (after_look
 unfolding after_look Still
 after_look_lem r w e = either Still (eqb r.number 0) tt e
 
-on_step_lem : (x : ScanStep) (k : Scan → Form) → StillStep x → ((u : Scan) → Still (k u)) → Still (on_step x k)
+on_step_lem : (x : Result Scan Refusal) (k : Scan → Result ℕ Refusal) → StillStep x → ((u : Scan) → Still (k u)) → Still (on_step x k)
 unfolding on_step StillStep Still
-on_step_lem (Go u) k h more = more u
-on_step_lem (Stop r) k h more = h
+on_step_lem (Ok u) k h more = more u
+on_step_lem (Err r) k h more = h
 
 scan-form : (s ps : List ℕ) (t : Scan) → Still (scan_from s ps t)
 unfolding scan_from finished Still
@@ -106,6 +103,6 @@ form-still : (s : List ℕ) → Still (form_of s)
 unfolding form_of Still
 form-still s = either Still (ltb 1048576 (length s)) refl (scan-form s (fields_from s 0) unscanned)
 
-pub form-steps : (s : List ℕ) (r : Refusal) → form_of s ≡ Refused r → r.steps ≡ 0
+pub form-steps : (s : List ℕ) (r : Refusal) → form_of s ≡ Err r → r.steps ≡ 0
 unfolding Still
 form-steps s r e = rw e at (form-still s)

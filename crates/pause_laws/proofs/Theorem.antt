@@ -8,10 +8,9 @@ use mathlib.Core.Option.{Option, none, some}
 use mathlib.Core.List.{List}
 use lib.Dec.{eqb, ltb, leb}
 use borrow.Author.Tests.{eqb-true, ltb-true, ltb-false, lt-ltb, le-ltb}
+use Rattle.std.proofs.Common.{Result, Ok, Err}
 use Rattle.answers.specs.declared.Refusal.{Refusal}
 use Rattle.answers.specs.Answers.{nowhere, refusal}
-use Rattle.definition.specs.declared.Form.{Form}
-use Rattle.definition.specs.declared.Form.TheVariants.{Fine, Refused}
 use Rattle.definition.specs.Machine.{Ran, accepted, refused, begun}
 use Rattle.definition.specs.Module.{Module, module_of}
 use Rattle.definition.specs.State.{State, Facts}
@@ -146,9 +145,9 @@ turn-uncut s words total = by_form (form_of s) refl
     by-room w true = same _ total (nowhere 5 0) (λ e. omega arith) refl (λ l. refl)
     by-room w false = decided-uncut (module_of s) (words - w) total
 
-    by_form : (x : Form) → form_of s ≡ x → Uncut (λ limit. on_form s words limit x) total
-    by_form (Refused r) e = same _ total r (λ z. let n = form-numbers s r e in omega (arith, n.1)) (form-steps s r e) (λ l. refl)
-    by_form (Fine w) e = by-room w (leb words w)
+    by_form : (x : Result ℕ Refusal) → form_of s ≡ x → Uncut (λ limit. on_form s words limit x) total
+    by_form (Err r) e = same _ total r (λ z. let n = form-numbers s r e in omega (arith, n.1)) (form-steps s r e) (λ l. refl)
+    by_form (Ok w) e = by-room w (leb words w)
 
 -- ---- read off it
 -- what a turn comes to, by the steps of the run never cut

@@ -4,7 +4,6 @@
 ghost use Rattle.std.specs.Prelude.{◌≡◌, ◌+◌, ◌*◌, ◌/◌, ◌%◌, ◌<◌, ◌≤◌, length};
 ghost use Rattle.mark.specs.Marks.{word_range};
 ghost use Rattle.layout.specs.Layout.{head_words};
-ghost use Rattle.layout.specs.Indexed.{bit};
 ghost use Rattle.paused.specs.Stored.{phase_of, run_words, stored, run_in};
 
 use ring::Queue;
@@ -60,12 +59,6 @@ fn phase(validating: bool) -> u32
     if validating { VALIDATION } else { 0 }
 }
 
-fn flag(b: bool) -> u32
-    ensures { result ≡ bit b }
-{
-    if b { 1 } else { 0 }
-}
-
 fn run_words(r: Run) -> [u32; 8]
     requires { r.chunk < word_range }
     ensures { result ≡ run_words r }
@@ -73,7 +66,7 @@ fn run_words(r: Run) -> [u32; 8]
     let q = r.queue;
     [
         phase(r.validating),
-        flag(r.changed),
+        u32::from(r.changed),
         r.chunk as u32,
         r.steps,
         low(q.head),

@@ -6,12 +6,11 @@ use mathlib.Core.Bool.{Bool, true, false, cond, ◌&&◌}
 use mathlib.Core.List.{List}
 use lib.Dec.{ltb}
 use lib.ListN.{length, take}
+use Rattle.std.specs.Prelude.{Ok, Result, Err}
 use Rattle.answers.specs.declared.Refusal.{Refusal}
-use Rattle.answers.specs.declared.Answer.{Answer}
-use Rattle.answers.specs.declared.Answer.TheVariants.{Accepted, Refused}
-use Rattle.answers.specs.declared.IndexedAnswer.{IndexedAnswer}
-use Rattle.answers.specs.declared.IndexedAnswer.TheVariants.{Accepted as AcceptedWith, Refused as RefusedWith}
-use Rattle.definition.specs.declared.Form.TheVariants.{Fine}
+use Rattle.answers.specs.declared.Accepted.{Accepted}
+use Rattle.answers.specs.declared.AcceptedIndexed.{AcceptedIndexed}
+use Rattle.answers.specs.Answers.{accepts, accepts_with}
 use Rattle.definition.specs.Module.{module_of}
 use Rattle.definition.specs.Call.{Decided, decided, decide, call}
 use Rattle.definition.specs.CallIndexed.{call_indexed}
@@ -36,7 +35,7 @@ unfolding turn_at
 turn-same d d' total e =
     (λ i. cond (ltb total most_steps && is_seven (e total i)) (pauses_at total) (ends_as (e (capped total) i)))
 
-pub turn-of : (s v : List ℕ) (words w total : ℕ) → room_of s words ≡ Fine w → length v ≡ words → turn_in s v total ≡ turn_of s words total
+pub turn-of : (s v : List ℕ) (words w total : ℕ) → room_of s words ≡ Ok w → length v ≡ words → turn_in s v total ≡ turn_of s words total
 unfolding turn_of on_room
 turn-of s v words w total h l =
     let g = good-form s w (room-fine s words w h).0 in
@@ -45,15 +44,15 @@ turn-of s v words w total h l =
     (λ n. ap (λ (k : ℕ). decided (module_of s) k n) z ∙ sym (room-decides s words n ∙ ap (on_room s words n) h))
 
 -- ---- accepted
-alone-back : (x : Answer) (long steps n : ℕ) → alone x ≡ AcceptedAnswer long steps n → x ≡ Accepted long steps
+alone-back : (x : Result Accepted Refusal) (long steps n : ℕ) → alone x ≡ AcceptedAnswer long steps n → x ≡ accepts long steps
 unfolding alone
-alone-back (Accepted l k) long steps n e = cc
-alone-back (Refused f) long steps n e = absurd (let z : ◌≡◌ {A = ℕ} 0 1 = cc in omega arith)
+alone-back (Ok a) long steps n e = let z : accepts a.length a.steps ≡ accepts long steps = cc in z
+alone-back (Err f) long steps n e = absurd (let z : ◌≡◌ {A = ℕ} 0 1 = cc in omega arith)
 
-beside_back : (x : IndexedAnswer) (long steps n : ℕ) → beside x ≡ AcceptedAnswer long steps n → x ≡ AcceptedWith long steps n
+beside_back : (x : Result AcceptedIndexed Refusal) (long steps n : ℕ) → beside x ≡ AcceptedAnswer long steps n → x ≡ accepts_with long steps n
 unfolding beside
-beside_back (AcceptedWith l k m) long steps n e = cc
-beside_back (RefusedWith f) long steps n e = absurd (let z : ◌≡◌ {A = ℕ} 0 1 = cc in omega arith)
+beside_back (Ok a) long steps n e = let z : accepts_with a.length a.steps a.index ≡ accepts_with long steps n = cc in z
+beside_back (Err f) long steps n e = absurd (let z : ◌≡◌ {A = ℕ} 0 1 = cc in omega arith)
 
 module _ (s ws buf idx : List ℕ) (limit : ℕ) (r : TurnAnswer) (buf' idx' : List ℕ) where
   accepted-alone : r ≡ alone (call s ws buf limit).answer → buf' ≡ (call s ws buf limit).report → AcceptedTurn s false r buf' idx'

@@ -1,4 +1,5 @@
 -- Each way through the two calls comes to what they promise.
+use Rattle.std.proofs.Common.{Result, Ok, Err}
 use Rattle.answers.specs.Answers.{indexed_numbers}
 use Prim.Native.Nat.{ℕ, ◌+◌, ◌*◌, ◌<◌, ◌≤◌}
 use native.Mathlib.Omega.{arith}
@@ -10,9 +11,6 @@ use lib.ListN.{length, get_or, length-replicate}
 use borrow.Author.Tests.{eqb-true, ltb-true, ltb-false}
 use Rattle.answers.specs.declared.Refusal.{Refusal}
 use Rattle.answers.specs.Answers.{nowhere}
-use Rattle.definition.specs.declared.Form.{Form}
-use Rattle.definition.specs.declared.Form.TheVariants.{Fine}
-use Rattle.definition.specs.declared.Form.TheVariants.{Refused as Malformed}
 use Rattle.definition.specs.Module.{module_of}
 use Rattle.definition.specs.Call.{Decided, turned, decide, left_words, outcome_of, turned_back}
 use Rattle.definition.specs.CallIndexed.{outcome_with, turned_back_with}
@@ -62,7 +60,7 @@ refused-turn s ws buf idx false f l = (refl, refl, refl, sym (left-as-was f.numb
 refused-turn s ws buf idx true f l = (refl, refl, refl, sym (left-as-was f.number ws l))
 
 -- what there is to work with
-pub good-room : (s : List ℕ) (n : ℕ) (f : Form) (w : ℕ) → f ≡ room_of s n → f ≡ Fine w → Good s w × (w < n) × (words_of (module_of s) < n)
+pub good-room : (s : List ℕ) (n : ℕ) (f : Result ℕ Refusal) (w : ℕ) → f ≡ room_of s n → f ≡ Ok w → Good s w × (w < n) × (words_of (module_of s) < n)
 good-room s n f w h e =
     let q = room-fine s n w (sym h ∙ e) in
     let g = good-form s w q.0 in
@@ -73,28 +71,28 @@ pub cleared-long : (ws v : List ℕ) → v ≡ cleared ws (length ws) → length
 cleared-long ws v e = ap length (e ∙ cleared-all ws) ∙ length-replicate {A = ℕ} (length ws) 0
 
 -- the number of a refusal 1 to 5
-pub room-early : (s : List ℕ) (n : ℕ) (x : Form) (f : Refusal) → x ≡ room_of s n → x ≡ Malformed f → f.number < 6
+pub room-early : (s : List ℕ) (n : ℕ) (x : Result ℕ Refusal) (f : Refusal) → x ≡ room_of s n → x ≡ Err f → f.number < 6
 unfolding room_of room_by with_room
 room-early s n x f h e = by_form (form_of s) refl (sym h ∙ e)
   where
-    by-room : (w : ℕ) (b : Bool) → cond b (Malformed (nowhere 5 0)) (Fine w) ≡ Malformed f → f.number < 6
+    by-room : (w : ℕ) (b : Bool) → cond b (Err (nowhere 5 0)) (Ok w) ≡ Err f → f.number < 6
     by-room w true q = let z : nowhere 5 0 ≡ f = cc in omega (arith, ap (λ (y : Refusal). y.number) z)
     by-room w false q = absurd (let o : ◌≡◌ {A = ℕ} 0 1 = cc in omega arith)
 
-    by_form : (y : Form) → form_of s ≡ y → room_by y n ≡ Malformed f → f.number < 6
-    by_form (Malformed g) k q = let z : g ≡ f = cc in omega (arith, (form-numbers s g k).1, ap (λ (y : Refusal). y.number) z)
-    by_form (Fine w) k q = by-room w (leb n w) q
+    by_form : (y : Result ℕ Refusal) → form_of s ≡ y → room_by y n ≡ Err f → f.number < 6
+    by_form (Err g) k q = let z : g ≡ f = cc in omega (arith, (form-numbers s g k).1, ap (λ (y : Refusal). y.number) z)
+    by_form (Ok w) k q = by-room w (leb n w) q
 
 -- ---- begun
-module _ (s ws buf idx : List ℕ) (indexed : Bool) (a : ℕ) (x : Form) (h : x ≡ room_of s (length ws)) where
-  pub started-refused : (f : Refusal) → x ≡ Malformed f → f.number < 6 → StartedRun s ws buf idx indexed a (RefusedAnswer f) buf idx ws
+module _ (s ws buf idx : List ℕ) (indexed : Bool) (a : ℕ) (x : Result ℕ Refusal) (h : x ≡ room_of s (length ws)) where
+  pub started-refused : (f : Refusal) → x ≡ Err f → f.number < 6 → StartedRun s ws buf idx indexed a (RefusedAnswer f) buf idx ws
   unfolding turn_of on_room turn_numbers indexed_numbers
   started-refused f e l =
       let t : turn_of s (length ws) a ≡ ends_as (turned f) = turn-const (decide s (length ws)) a f l (λ n. room-decides s (length ws) n ∙ ap (on_room s (length ws) n) (sym h ∙ e)) in
       let turn : TurnAs s ws buf idx indexed (turn_of s (length ws) a) (RefusedAnswer f) buf idx ws = rw t (refused-turn s ws buf idx indexed f l) in
       record { turn = turn; accepted = accepted-turn s ws buf idx a (RefusedAnswer f) buf idx ws indexed turn; short = (omega arith, omega arith) }
 
-  pub started-ran : (w : ℕ) (v u buf' idx' ws' : List ℕ) (y : Stage) (r : TurnAnswer) → x ≡ Fine w → length v ≡ length ws → Begun s v u a y
+  pub started-ran : (w : ℕ) (v u buf' idx' ws' : List ℕ) (y : Stage) (r : TurnAnswer) → x ≡ Ok w → length v ≡ length ws → Begun s v u a y
       → Closed s u buf idx indexed y r buf' idx' ws' → StartedRun s ws buf idx indexed a r buf' idx' ws'
   started-ran w v u buf' idx' ws' y r e l b c =
       let t = closed-turn s u ws buf idx indexed r buf' idx' ws' v a y (b.long ∙ l) b.stage c in
@@ -107,22 +105,22 @@ module _ (s ws buf idx : List ℕ) (indexed : Bool) (a : ℕ) (x : Form) (h : x 
 
 -- ---- taken up
 module _ (s ws buf idx : List ℕ) (indexed : Bool) (a : ℕ) where
-  pub resumed-early : (f : Refusal) → room_of s (length ws) ≡ Malformed f → f.number < 6 → ResumedRun s ws buf idx indexed a (RefusedAnswer f) buf idx ws
+  pub resumed-early : (f : Refusal) → room_of s (length ws) ≡ Err f → f.number < 6 → ResumedRun s ws buf idx indexed a (RefusedAnswer f) buf idx ws
   unfolding turn_numbers indexed_numbers
   resumed-early f e l =
       record {
-        early = λ g q. (ap RefusedAnswer (let z : Malformed f ≡ Malformed g = sym e ∙ q in cc), (refl, refl, refl));
-        unmarked = λ w q m. absurd (let z : Malformed f ≡ Fine w = sym e ∙ q in let o : ◌≡◌ {A = ℕ} 0 1 = cc in omega arith);
-        turn = λ n w q p. absurd (let z : Malformed f ≡ Fine w = sym e ∙ q in let o : ◌≡◌ {A = ℕ} 0 1 = cc in omega arith);
-        accepted = λ n w q p. absurd (let z : Malformed f ≡ Fine w = sym e ∙ q in let o : ◌≡◌ {A = ℕ} 0 1 = cc in omega arith);
+        early = λ g q. (ap RefusedAnswer (let z : Err f ≡ Err g = sym e ∙ q in cc), (refl, refl, refl));
+        unmarked = λ w q m. absurd (let z : Err f ≡ Ok w = sym e ∙ q in let o : ◌≡◌ {A = ℕ} 0 1 = cc in omega arith);
+        turn = λ n w q p. absurd (let z : Err f ≡ Ok w = sym e ∙ q in let o : ◌≡◌ {A = ℕ} 0 1 = cc in omega arith);
+        accepted = λ n w q p. absurd (let z : Err f ≡ Ok w = sym e ∙ q in let o : ◌≡◌ {A = ℕ} 0 1 = cc in omega arith);
         short = (omega arith, omega arith);
       }
 
-  pub resumed-unmarked : (w : ℕ) → room_of s (length ws) ≡ Fine w → marked ws ≡ false → ResumedRun s ws buf idx indexed a (RefusedAnswer (nowhere 21 0)) buf idx ws
+  pub resumed-unmarked : (w : ℕ) → room_of s (length ws) ≡ Ok w → marked ws ≡ false → ResumedRun s ws buf idx indexed a (RefusedAnswer (nowhere 21 0)) buf idx ws
   unfolding turn_numbers indexed_numbers
   resumed-unmarked w e m =
       record {
-        early = λ f q. absurd (let z : Fine w ≡ Malformed f = sym e ∙ q in let o : ◌≡◌ {A = ℕ} 0 1 = cc in omega arith);
+        early = λ f q. absurd (let z : Ok w ≡ Err f = sym e ∙ q in let o : ◌≡◌ {A = ℕ} 0 1 = cc in omega arith);
         unmarked = λ v q k. (refl, (refl, refl, refl));
         turn = λ n v q p. absurd (let z : true ≡ false = sym p.marked ∙ m in let o : ◌≡◌ {A = ℕ} 0 1 = cc in omega arith);
         accepted = λ n v q p. absurd (let z : true ≡ false = sym p.marked ∙ m in let o : ◌≡◌ {A = ℕ} 0 1 = cc in omega arith);
@@ -138,11 +136,11 @@ module _ (s ws buf idx : List ℕ) (indexed : Bool) (a : ℕ) where
         behind = λ j x. q.same p.between.prepared.indexed j (λ m l e. omega arith);
       }
 
-  pub resumed-ran : (w : ℕ) (v u buf' idx' ws' : List ℕ) (y : Stage) (r : TurnAnswer) → room_of s (length ws) ≡ Fine w → marked ws ≡ true → Refilled s ws v
+  pub resumed-ran : (w : ℕ) (v u buf' idx' ws' : List ℕ) (y : Stage) (r : TurnAnswer) → room_of s (length ws) ≡ Ok w → marked ws ≡ true → Refilled s ws v
       → TakenUp s v u a y → Closed s u buf idx indexed y r buf' idx' ws' → ResumedRun s ws buf idx indexed a r buf' idx' ws'
   resumed-ran w v u buf' idx' ws' y r e m q t c =
       record {
-        early = λ f z. absurd (let k : Fine w ≡ Malformed f = sym e ∙ z in let o : ◌≡◌ {A = ℕ} 0 1 = cc in omega arith);
+        early = λ f z. absurd (let k : Ok w ≡ Err f = sym e ∙ z in let o : ◌≡◌ {A = ℕ} 0 1 = cc in omega arith);
         unmarked = λ k z b. absurd (let x : true ≡ false = sym m ∙ b in let o : ◌≡◌ {A = ℕ} 0 1 = cc in omega arith);
         turn = λ n k z p. turn n p;
         accepted = λ n k z p. accepted-turn s ws buf idx (n + a) r buf' idx' ws' indexed (turn n p);

@@ -1,12 +1,10 @@
 -- Document 02, Six: what the two calls come to. Beginning a run: the turn of its allowance. Taking one up: 1 to 5 as ever, 21 where the mark is wrong,
 -- all memory untouched; a workspace in which a run has paused is at the turn of all its allowances; of any other nothing is said but that the
 -- call ends and stays inside its memory, which every function here does.
-use Rattle.std.specs.Prelude.{ℕ, ◌+◌, ◌<◌, ◌≡◌, Bool, false, List, length, get_or}
+use Rattle.std.specs.Prelude.{ℕ, ◌+◌, ◌<◌, ◌≡◌, Bool, false, List, length, get_or, Ok, Err}
 use Rattle.mark.specs.Marks.{marked}
 use Rattle.answers.specs.declared.Refusal.{Refusal}
 use Rattle.answers.specs.Answers.{nowhere}
-use Rattle.definition.specs.declared.Form.TheVariants.{Fine}
-use Rattle.definition.specs.declared.Form.TheVariants.{Refused as Malformed}
 use Rattle.form.specs.room.Room.{room_of}
 use Rattle.pause_laws.specs.Turn.{turn_of}
 use Rattle.pausing.specs.declared.Turn.{Turn as TurnAnswer}
@@ -29,10 +27,10 @@ Untouched ws buf idx buf' idx' ws' = (buf' ≡ buf) × (idx' ≡ idx) × (ws' �
 
 pub record ResumedRun (s ws buf idx : List ℕ) (indexed : Bool) (allowance : ℕ) (r : TurnAnswer) (buf' idx' ws' : List ℕ) : Type 0 where
   -- 1 to 5
-  pub early : (f : Refusal) → room_of s (length ws) ≡ Malformed f → (r ≡ RefusedAnswer f) × Untouched ws buf idx buf' idx' ws'
+  pub early : (f : Refusal) → room_of s (length ws) ≡ Err f → (r ≡ RefusedAnswer f) × Untouched ws buf idx buf' idx' ws'
   -- 21
-  pub unmarked : (w : ℕ) → room_of s (length ws) ≡ Fine w → marked ws ≡ false → (r ≡ RefusedAnswer (nowhere 21 0)) × Untouched ws buf idx buf' idx' ws'
+  pub unmarked : (w : ℕ) → room_of s (length ws) ≡ Ok w → marked ws ≡ false → (r ≡ RefusedAnswer (nowhere 21 0)) × Untouched ws buf idx buf' idx' ws'
   -- a paused run goes on
-  pub turn : (n w : ℕ) → room_of s (length ws) ≡ Fine w → Paused s ws n → TurnAs s ws buf idx indexed (turn_of s (length ws) (n + allowance)) r buf' idx' ws'
-  pub accepted : (n w : ℕ) → room_of s (length ws) ≡ Fine w → Paused s ws n → AcceptedTurn s indexed r buf' idx'
+  pub turn : (n w : ℕ) → room_of s (length ws) ≡ Ok w → Paused s ws n → TurnAs s ws buf idx indexed (turn_of s (length ws) (n + allowance)) r buf' idx' ws'
+  pub accepted : (n w : ℕ) → room_of s (length ws) ≡ Ok w → Paused s ws n → AcceptedTurn s indexed r buf' idx'
   pub short : ShortTurn r

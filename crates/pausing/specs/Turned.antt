@@ -1,12 +1,10 @@
 -- Document 02, Six: what a call of a run that may pause answers and leaves. `turn_of` (pause_laws/specs/Turn.antt) says which; a pause leaves both
 -- buffers and the run in the workspace, an end is that of the call that can't pause, with an index or without.
-use Rattle.std.specs.Prelude.{ℕ, ◌<◌, ◌≡◌, Bool, true, false, List, [], ◌∷◌, length, take, get_or}
+use Rattle.std.specs.Prelude.{ℕ, ◌<◌, ◌≡◌, Bool, true, false, List, [], ◌∷◌, length, take, get_or, Result, Ok, Err}
 use Rattle.answers.specs.declared.Refusal.{Refusal}
-use Rattle.answers.specs.declared.Answer.{Answer}
-use Rattle.answers.specs.declared.Answer.TheVariants.{Accepted, Refused}
-use Rattle.answers.specs.declared.IndexedAnswer.{IndexedAnswer}
-use Rattle.answers.specs.declared.IndexedAnswer.TheVariants.{Accepted as AcceptedWith, Refused as RefusedWith}
-use Rattle.answers.specs.Answers.{indexed_numbers}
+use Rattle.answers.specs.declared.Accepted.{Accepted}
+use Rattle.answers.specs.declared.AcceptedIndexed.{AcceptedIndexed}
+use Rattle.answers.specs.Answers.{indexed_numbers, accepts_with}
 use Rattle.report_index.specs.Index.{agrees}
 use Rattle.definition.specs.Module.{module_of}
 use Rattle.definition.specs.Report.{report_bytes}
@@ -27,17 +25,17 @@ pause_number = 255
 
 unfoldable pub turn_numbers : TurnAnswer → List ℕ
 turn_numbers (PausedAnswer steps) = pause_number ∷ 65535 ∷ 65535 ∷ steps ∷ 0 ∷ 0 ∷ []
-turn_numbers (RefusedAnswer r) = indexed_numbers (RefusedWith r)
-turn_numbers (AcceptedAnswer length steps index) = indexed_numbers (AcceptedWith length steps index)
+turn_numbers (RefusedAnswer r) = indexed_numbers (Err r)
+turn_numbers (AcceptedAnswer length steps index) = indexed_numbers (accepts_with length steps index)
 
 -- ---- an end: without an index its length is 0
-unfoldable pub alone : Answer → TurnAnswer
-alone (Accepted length steps) = AcceptedAnswer length steps 0
-alone (Refused r) = RefusedAnswer r
+unfoldable pub alone : Result Accepted Refusal → TurnAnswer
+alone (Ok a) = AcceptedAnswer a.length a.steps 0
+alone (Err r) = RefusedAnswer r
 
-unfoldable pub beside : IndexedAnswer → TurnAnswer
-beside (AcceptedWith length steps index) = AcceptedAnswer length steps index
-beside (RefusedWith r) = RefusedAnswer r
+unfoldable pub beside : Result AcceptedIndexed Refusal → TurnAnswer
+beside (Ok a) = AcceptedAnswer a.length a.steps a.index
+beside (Err r) = RefusedAnswer r
 
 pub record TurnOutcome : Type 0 where
   pub answer : TurnAnswer

@@ -9,7 +9,6 @@ ghost use Rattle.pausing.specs.closing.Closed.{ToldTurn, Closed};
 
 use crate::Turn;
 use crate::reaching::{End, Stage};
-use answers::{Answer, IndexedAnswer};
 use call::{deliver, deliver_indexed};
 use layout::Tables;
 use words::clear;
@@ -22,10 +21,10 @@ fn told(s: &[u8], ws: &[u32], buf: &mut [u8], t: Tables, end: End) -> Turn
     ensures { (idx : List ℕ) → ToldTurn (reported (report_in s.now ws.now end.reply) end.steps) false buf.old idx result buf.new idx }
 {
     match deliver(s, ws, buf, t, end.reply, end.steps) {
-        Answer::Refused(refusal) => Turn::Refused(refusal),
-        Answer::Accepted { length, steps } => Turn::Accepted {
-            length,
-            steps,
+        Err(refusal) => Turn::Refused(refusal),
+        Ok(accepted) => Turn::Accepted {
+            length: accepted.length,
+            steps: accepted.steps,
             index: 0,
         },
     }
@@ -39,15 +38,11 @@ fn told_indexed(s: &[u8], ws: &[u32], buf: &mut [u8], idx: &mut [u8], t: Tables,
     ensures { ToldTurn (reported (report_in s.now ws.now end.reply) end.steps) true buf.old idx.old result buf.new idx.new }
 {
     match deliver_indexed(s, ws, buf, idx, t, end.reply, end.steps) {
-        IndexedAnswer::Refused(refusal) => Turn::Refused(refusal),
-        IndexedAnswer::Accepted {
-            length,
-            steps,
-            index,
-        } => Turn::Accepted {
-            length,
-            steps,
-            index,
+        Err(refusal) => Turn::Refused(refusal),
+        Ok(accepted) => Turn::Accepted {
+            length: accepted.length,
+            steps: accepted.steps,
+            index: accepted.index,
         },
     }
 }

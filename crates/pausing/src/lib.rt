@@ -5,14 +5,12 @@
 mod closing;
 mod reaching;
 
-ghost use Rattle.std.specs.Prelude.{◌≡◌, length};
-ghost use Rattle.definition.specs.declared.Form.TheVariants.{Fine};
+ghost use Rattle.std.specs.Prelude.{◌≡◌, Ok, length};
 ghost use Rattle.form.specs.room.Room.{room_of};
 ghost use Rattle.pausing.specs.Resumed.{StartedRun, ResumedRun};
 
 use answers::{Refusal, nowhere};
 use closing::close;
-use definition::Form;
 use form::check_room;
 use index_fill::{fill, refill};
 use mark::is_marked;
@@ -51,8 +49,8 @@ pub fn start_run(
 {
     let room = workspace.len();
     match check_room(description, room) {
-        Form::Refused(refusal) => Turn::Refused(refusal),
-        Form::Fine(words) => {
+        Err(refusal) => Turn::Refused(refusal),
+        Ok(words) => {
             clear(workspace, room);
             let t = fill(description, workspace, words as usize);
             let stage = begin(description, workspace, t, allowance);
@@ -71,7 +69,7 @@ fn resume_in(
     words: usize,
     allowance: u32,
 ) -> Turn
-    requires { room_of s.now (length ws.old) ≡ Fine words }
+    requires { room_of s.now (length ws.old) ≡ Ok words }
     ensures { ResumedRun s.now ws.old buf.old idx.old indexed allowance result buf.new idx.new ws.new }
 {
     if !is_marked(ws) {
@@ -94,8 +92,8 @@ pub fn resume_run(
     ensures { ResumedRun description.now workspace.old report.old index.old indexed allowance result report.new index.new workspace.new }
 {
     match check_room(description, workspace.len()) {
-        Form::Refused(refusal) => Turn::Refused(refusal),
-        Form::Fine(words) => resume_in(
+        Err(refusal) => Turn::Refused(refusal),
+        Ok(words) => resume_in(
             description,
             workspace,
             report,

@@ -17,7 +17,7 @@ use paused::{put_run, run_at};
 use resumable::{can_go_on, is_faultless};
 use run::{RunTo, run_first, run_to, spent};
 use run_state::Run;
-use start::{Started, restart, start};
+use start::{restart, start};
 
 // The end of a run: the reply's largest body and the steps, the facts standing in the workspace.
 #[derive(Clone, Copy)]
@@ -65,15 +65,15 @@ fn pause(s: &[u8], ws: &mut [u32], t: Tables, r: Run) -> Stage
     Stage::Paused(r.steps)
 }
 
-fn stage_of(s: &[u8], ws: &mut [u32], t: Tables, reply: u32, ran: RunTo) -> Stage
+fn stage_of(s: &[u8], ws: &mut [u32], t: Tables, reply: u32, ran: Result<RunTo, Refusal>) -> Stage
     requires ran_ready { RanReady s.now ws.old ran }
     requires t_value { t ≡ tables_of s.now }
     ensures { (result ≡ stage_of s.now ws.old reply ran) × (ws.new ≡ stage_words ws.old ran) }
 {
     match ran {
-        RunTo::Due(r) => pause(s, ws, t, r),
-        RunTo::Halt(refusal) => Stage::Refused(refusal),
-        RunTo::Over(steps) => Stage::Over(End { reply, steps }),
+        Ok(RunTo::Due(r)) => pause(s, ws, t, r),
+        Err(refusal) => Stage::Refused(refusal),
+        Ok(RunTo::Over(steps)) => Stage::Over(End { reply, steps }),
     }
 }
 
@@ -86,8 +86,8 @@ pub fn begin(s: &[u8], ws: &mut [u32], t: Tables, allowance: u32) -> Stage
     ensures { Begun s.now ws.old ws.new allowance result }
 {
     match start(s, ws, t) {
-        Started::Refused(refusal) => Stage::Refused(refusal),
-        Started::Ready(reply) => {
+        Err(refusal) => Stage::Refused(refusal),
+        Ok(reply) => {
             let ran = run_first(s, ws, t, allowance);
             stage_of(s, ws, t, reply, ran)
         }
@@ -157,7 +157,7 @@ pub fn take_up(s: &[u8], ws: &mut [u32], t: Tables, allowance: u32) -> Stage
     ensures { TakenUp s.now ws.old ws.new allowance result }
 {
     match restart(s, ws, t) {
-        Started::Refused(refusal) => Stage::Refused(refusal),
-        Started::Ready(reply) => go_on(s, ws, t, reply, allowance),
+        Err(refusal) => Stage::Refused(refusal),
+        Ok(reply) => go_on(s, ws, t, reply, allowance),
     }
 }

@@ -37,10 +37,9 @@ use Rattle.visit.specs.declared.RowVisit.{RowVisit}
 use Rattle.run_state.specs.Course.{states_in, room_in, work_in, Low, Queued, RowsOnly, state_at}
 use Rattle.run_state.proofs.Rows.{SameRow, states-length, states-at, states-set, low-set, rows-only-trans}
 use Rattle.run_state.proofs.Queues.{queue-length, queue-kept, queued-kept, push-rows-only, push-states, push-low, queued-push}
-use Rattle.propagate.specs.declared.Went.{Went}
-use Rattle.propagate.specs.declared.Went.TheVariants.{On, Stop}
 use Rattle.propagate.specs.Passing.{leaves_with, Passed}
 use Rattle.propagate.specs.Steps.{Enqueued, way_at, Open, PassReady, Beside}
+use Rattle.std.specs.Prelude.{Result, Ok, Err}
 
 -- ---- a write to a row that keeps its second word keeps the index
 steady-around : (m : Module) (at len : ℕ) (ws v : List ℕ) → Free m at 1 → Free m (at + 2) len → length v ≡ length ws
@@ -208,7 +207,7 @@ module _ (s ws : List ℕ) (t : Tables) (ch : Chunk) (v : RowVisit) (l : Leaving
         (put-met (room_in s ws) (work_in s ws v.chunk q) to (leaves_with ws ch v l narrow) (state_at s v.chunk ws to) wide
         ∙ (λ i. met_put (room_in s ws) (work_in s ws v.chunk q) to (sym met i) ((sym how ∙ e) i)))
 
-    pub same-put : r ≡ Same → Passed s ws u v q ((to, leaves_with ws ch v l narrow) ∷ []) (On q) × Beside s v to ws u
+    pub same-put : r ≡ Same → Passed s ws u v q ((to, leaves_with ws ch v l narrow) ∷ []) (Ok q) × Beside s v to ws u
     unfolding Passed met_put work_in
     same-put e = ((puts-same, rows-only, low, queued), beside)
       where
@@ -226,7 +225,7 @@ module _ (s ws : List ℕ) (t : Tables) (ch : Chunk) (v : RowVisit) (l : Leaving
             put_as Same e
             ∙ (λ i. ok (record { states = sym states-same i; queue = sym queue-same i }))
 
-    pub unequal-put : r ≡ Unequal → Passed s ws u v q ((to, leaves_with ws ch v l narrow) ∷ []) (Stop 18) × Beside s v to ws u
+    pub unequal-put : r ≡ Unequal → Passed s ws u v q ((to, leaves_with ws ch v l narrow) ∷ []) (Err 18) × Beside s v to ws u
     unfolding Passed met_put
     unequal-put e = (put_as Unequal e, beside)
 
@@ -240,7 +239,7 @@ module _ (s ws : List ℕ) (t : Tables) (ch : Chunk) (v : RowVisit) (l : Leaving
         (ap (λ (k : ℕ). ltb k (room_in s ws)) (queue-length ws (words_of (module_of s)) q) ∙ f)
 
     queue-put : r ≡ Changed → q.count < length u - words_of (module_of s)
-        → Passed s ws (pushed u (words_of (module_of s)) q to) v q ((to, leaves_with ws ch v l narrow) ∷ []) (On (grown q))
+        → Passed s ws (pushed u (words_of (module_of s)) q to) v q ((to, leaves_with ws ch v l narrow) ∷ []) (Ok (grown q))
     unfolding Passed push work_in
     queue-put e f = (
       changed-put e true (lt-ltb q.count (room_in s ws) (omega (arith, long)))
@@ -256,7 +255,7 @@ module _ (s ws : List ℕ) (t : Tables) (ch : Chunk) (v : RowVisit) (l : Leaving
         put-queue : queue_of (pushed u (words_of (module_of s)) q to) (words_of (module_of s)) (grown q) ≡ queue_of ws (words_of (module_of s)) q ++ (to ∷ [])
         put-queue = entries-push u (words_of (module_of s)) q to queued.ready f ∙ ap (λ (k : List ℕ). k ++ (to ∷ [])) queue-same
 
-    full_put : r ≡ Changed → length u - words_of (module_of s) ≤ q.count → Passed s ws u v q ((to, leaves_with ws ch v l narrow) ∷ []) (Stop 8)
+    full_put : r ≡ Changed → length u - words_of (module_of s) ≤ q.count → Passed s ws u v q ((to, leaves_with ws ch v l narrow) ∷ []) (Err 8)
     unfolding Passed push
     full_put e f = changed-put e false (le-ltb q.count (room_in s ws) (omega (arith, long)))
 
@@ -265,13 +264,13 @@ module _ (s ws : List ℕ) (t : Tables) (ch : Chunk) (v : RowVisit) (l : Leaving
     queue-at-eq = ap (λ (y : Tables). y.queue_at) x.tables
 
     -- after its entry is put, or finds no room
-    pub entry-put : r ≡ Changed → (w : List ℕ) (z : Went) → Enqueued u w t.queue_at q to z
+    pub entry-put : r ≡ Changed → (w : List ℕ) (z : Result Queue ℕ) → Enqueued u w t.queue_at q to z
         → Passed s ws w v q ((to, leaves_with ws ch v l narrow) ∷ []) z × Beside s v to ws w
     unfolding Enqueued Beside
-    entry-put e w (On y) (f, g, k) =
+    entry-put e w (Ok y) (f, g, k) =
         let a : w ≡ pushed u (words_of (module_of s)) q to = g ∙ ap (λ (b : ℕ). pushed u b q to) queue-at-eq in
         rw (a, k) (
           queue-put e (omega (arith, queue-at-eq)),
           λ j b d. push-below u (words_of (module_of s)) q to j b ∙ beside j b d,
         )
-    entry-put e w (Stop n) (f, g, k) = rw (g, k) (full_put e (omega (arith, queue-at-eq)), beside)
+    entry-put e w (Err n) (f, g, k) = rw (g, k) (full_put e (omega (arith, queue-at-eq)), beside)

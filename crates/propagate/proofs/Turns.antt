@@ -22,25 +22,22 @@ use Rattle.form_laws.specs.Good.{ChunkGood, chunk_no, row_cells}
 use Rattle.layout.specs.declared.Chunk.{Chunk}
 use Rattle.layout.specs.declared.Tables.{Tables}
 use Rattle.layout.specs.Layout.{row_at}
-use Rattle.layout.specs.Indexed.{tables_of, chunk_at}
+use Rattle.layout.specs.Indexed.{tables_of}
 use Rattle.layout.proofs.Read.{Row, row-known, count-is, stack_is, locals-is}
 use Rattle.layout.proofs.Apart.{by_order, row_apart}
 use Rattle.row_join.specs.places.Arrive.{no_local}
 use Rattle.row_join.specs.declared.joining.Leaving.{Leaving}
 use Rattle.row_join.specs.joining.Leave.{JoinReady, row_words}
 use Rattle.visit.specs.declared.RowVisit.{RowVisit}
-use Rattle.visit.specs.Held.{Looking}
 use Rattle.visit.proofs.Visits.{row-there}
-use Rattle.run_state.specs.Course.{states_in, room_in, work_in, Low, Queued}
+use Rattle.run_state.specs.Course.{states_in, room_in, work_in}
 use Rattle.run_state.proofs.Rows.{states-length, rows-only-refl}
-use Rattle.ways.specs.declared.Narrows.{Narrows}
 use Rattle.ways.specs.Ways.{receiver}
 use Rattle.masks.proofs.Both.{neither}
-use Rattle.propagate.specs.declared.Went.{Went}
-use Rattle.propagate.specs.declared.Went.TheVariants.{On}
-use Rattle.propagate.specs.Passing.{LeavesInRow, leaves_with, along_in, condition, exit_in, passes, Passed, narrowed_in}
+use Rattle.propagate.specs.Passing.{leaves_with, along_in, condition, exit_in, passes, Passed, narrowed_in}
 use Rattle.propagate.specs.Steps.{cut_in, local_on, way_at, Open, PassReady, Beside}
 use Rattle.propagate.proofs.Cuts.{cut-passes, on-passes, on-local}
+use Rattle.std.specs.Prelude.{Option as Found, Result, Ok}
 
 module _ (s ws : List ℕ) (t : Tables) (ch : Chunk) (v : RowVisit) (l : Leaving) (q : Queue) (x : PassReady s ws t ch v l q) where
   size-eq : row_words ch ≡ 16 * row_cells (chunk_no (module_of s) v.chunk)
@@ -54,12 +51,12 @@ module _ (s ws : List ℕ) (t : Tables) (ch : Chunk) (v : RowVisit) (l : Leaving
   queue-ready = let e = ap (λ (y : Tables). y.queue_at) x.tables in rw e x.queued.ready
 
   -- nothing passes
-  pub still : Passed s ws ws v q [] (On q)
+  pub still : Passed s ws ws v q [] (Ok q)
   unfolding Passed puts
   still = (refl, rows-only-refl s v.chunk ws, x.low, x.queued)
 
   module _ (to : ℕ) where
-    past : ch.count ≤ to → (y : Option State) → Passed s ws ws v q (on_way to y []) (On q)
+    past : ch.count ≤ to → (y : Option State) → Passed s ws ws v q (on_way to y []) (Ok q)
     unfolding Passed puts put put_in on_way work_in
     past h none = still
     past h (some y) = (
@@ -70,7 +67,7 @@ module _ (s ws : List ℕ) (t : Tables) (ch : Chunk) (v : RowVisit) (l : Leaving
       x.queued,
     )
 
-    past-passes : ch.count ≤ to → Passed s ws ws v q (passes ws ch v l to) (On q)
+    past-passes : ch.count ≤ to → Passed s ws ws v q (passes ws ch v l to) (Ok q)
     unfolding passes
     past-passes h = past h (along_in ws ch v l (narrowed_in ws v to))
 
@@ -103,15 +100,15 @@ module _ (s ws : List ℕ) (t : Tables) (ch : Chunk) (v : RowVisit) (l : Leaving
               narrow = k;
             }
 
-    module _ (n : Narrows) (y : Cell) (ye : y ≡ condition ws v) (exit : Exit) (ee : exit ≡ exit_in v) (e : receiver n ≡ narrowing exit y.flow.predicate v.ins.a to) (b : Bool) (be : b ≡ cut_in ws ch v n) where
+    module _ (n : Found ℕ) (y : Cell) (ye : y ≡ condition ws v) (exit : Exit) (ee : exit ≡ exit_in v) (e : receiver n ≡ narrowing exit y.flow.predicate v.ins.a to) (b : Bool) (be : b ≡ cut_in ws ch v n) where
       by : receiver n ≡ narrowed_in ws v to
       by = e ∙ (λ i. narrowing (ee i) (ye i).flow.predicate v.ins.a to)
 
-      pub none_pass : (b || leb ch.count to) ≡ true → Passed s ws ws v q (passes ws ch v l to) (On q) × Beside s v to ws ws
+      pub none_pass : (b || leb ch.count to) ≡ true → Passed s ws ws v q (passes ws ch v l to) (Ok q) × Beside s v to ws ws
       unfolding Beside
       none_pass f = (go b refl, λ j a c. refl)
         where
-          go : (k : Bool) → b ≡ k → Passed s ws ws v q (passes ws ch v l to) (On q)
+          go : (k : Bool) → b ≡ k → Passed s ws ws v q (passes ws ch v l to) (Ok q)
           go true g = rw (cut-passes ws ch v l to n by (sym be ∙ g)) still
           go false g = past-passes (leb-true ch.count to (rw g at f))
 
@@ -126,7 +123,7 @@ module _ (s ws : List ℕ) (t : Tables) (ch : Chunk) (v : RowVisit) (l : Leaving
           pub open-on : Open ws t ch v l q to k
           open-on = rw ke (open-pass (local_on n) inside (on-local ws ch v n uncut))
 
-          pub one-pass : (u : List ℕ) (r : Went)
+          pub one-pass : (u : List ℕ) (r : Result Queue ℕ)
               → ((s : List ℕ) → PassReady s ws t ch v l q → to < ch.count
               → Passed s ws u v q ((to, leaves_with ws ch v l k) ∷ []) r × Beside s v to ws u)
               → Passed s ws u v q (passes ws ch v l to) r × Beside s v to ws u

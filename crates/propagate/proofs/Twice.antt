@@ -40,11 +40,10 @@ use Rattle.run_state.proofs.Rows.{SameWords, cells-kept, rows-only-trans}
 use Rattle.ways.specs.declared.Ways.{Ways}
 use Rattle.ways.specs.declared.Ways.TheVariants.{Zero, One, Two}
 use Rattle.ways.specs.Ways.{targets}
-use Rattle.propagate.specs.declared.Went.{Went}
-use Rattle.propagate.specs.declared.Went.TheVariants.{On, Stop}
 use Rattle.propagate.specs.Passing.{locals_of, leaves_with, along_in, condition, exit_in, passes, passes_all, ways_in, Passed, narrowed_in}
 use Rattle.propagate.specs.Steps.{PassReady, Beside}
 use Rattle.propagate.proofs.Turns.{still}
+use Rattle.std.specs.Prelude.{Result, Ok, Err}
 
 -- ---- of two ways, the first leads on
 branch-first : (p q : Bool) (n t a b : ℕ) → cond p (t ∷ []) (cond q (n ∷ []) (n ∷ t ∷ [])) ≡ a ∷ b ∷ [] → a ≡ n
@@ -119,10 +118,10 @@ module _ (s ws : List ℕ) (t : Tables) (ch : Chunk) (v : RowVisit) (l : Leaving
     unfolding passes_all passes
     ways-one a f = ways-are ∙ ap (λ (z : Ways). passes_all ws ch v l (targets z)) f
 
-    pub no-ways : k ≡ Zero → Passed s ws ws v q (ways_in ws ch v l) (On q)
+    pub no-ways : k ≡ Zero → Passed s ws ws v q (ways_in ws ch v l) (Ok q)
     no-ways f = rw (ways-none f) (still s ws t ch v l q x)
 
-    pub one_way : (a : ℕ) → k ≡ One a → (u : List ℕ) (r : Went) → Passed s ws u v q (passes ws ch v l a) r → Passed s ws u v q (ways_in ws ch v l) r
+    pub one_way : (a : ℕ) → k ≡ One a → (u : List ℕ) (r : Result Queue ℕ) → Passed s ws u v q (passes ws ch v l a) r → Passed s ws u v q (ways_in ws ch v l) r
     one_way a f u r g = rw (ways-one a f) g
 
     module _ (a b : ℕ) (f : k ≡ Two a b) where
@@ -133,14 +132,14 @@ module _ (s ws : List ℕ) (t : Tables) (ch : Chunk) (v : RowVisit) (l : Leaving
           ap (puts join cap z) (ways-are ∙ ap (λ (i : Ways). passes_all ws ch v l (targets i)) f)
           ∙ way-first cap z a _ (passes ws ch v l b)
 
-      pub two-stop : (u : List ℕ) (n : ℕ) → Passed s ws u v q (passes ws ch v l a) (Stop n) → Passed s ws u v q (ways_in ws ch v l) (Stop n)
+      pub two-stop : (u : List ℕ) (n : ℕ) → Passed s ws u v q (passes ws ch v l a) (Err n) → Passed s ws u v q (ways_in ws ch v l) (Err n)
       unfolding Passed
       two-stop u n g =
           two-puts (room_in s ws) (work_in s ws v.chunk q)
           ∙ ap (λ (r : Res (Work State)). bind r (λ w. puts join (room_in s ws) w (passes ws ch v l b))) g
 
       -- ---- between the two
-      module _ (w : List ℕ) (z : Queue) (g : Passed s ws w v q (passes ws ch v l a) (On z)) (o : Beside s v a ws w) where
+      module _ (w : List ℕ) (z : Queue) (g : Passed s ws w v q (passes ws ch v l a) (Ok z)) (o : Beside s v a ws w) where
         rows-only : RowsOnly s v.chunk ws w
         unfolding Passed
         rows-only = g.1
@@ -197,7 +196,7 @@ module _ (s ws : List ℕ) (t : Tables) (ch : Chunk) (v : RowVisit) (l : Leaving
             ∙ ap (λ (r : Res (Work State)). bind r (λ u. puts join (room_in s ws) u (passes ws ch v l b))) g.0
             ∙ (λ i. puts join (sym rows-only.steady.kept.long i - words_of (module_of s)) (work_in s w v.chunk z) (sym same-passes i))
 
-        pub two_ways : (u : List ℕ) (r : Went) → Passed s w u v z (passes w ch v l b) r → Passed s ws u v q (ways_in ws ch v l) r
+        pub two_ways : (u : List ℕ) (r : Result Queue ℕ) → Passed s w u v z (passes w ch v l b) r → Passed s ws u v q (ways_in ws ch v l) r
         unfolding Passed
-        two_ways u (On r) h = (both-puts ∙ h.0, rows-only-trans s v.chunk ws w u rows-only h.1, h.2, h.3)
-        two_ways u (Stop n) h = both-puts ∙ h
+        two_ways u (Ok r) h = (both-puts ∙ h.0, rows-only-trans s v.chunk ws w u rows-only h.1, h.2, h.3)
+        two_ways u (Err n) h = both-puts ∙ h

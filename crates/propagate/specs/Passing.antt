@@ -1,5 +1,5 @@
 -- What passes along the ways of a visit, read off its row, and what the machine makes of it.
-use Rattle.std.specs.Prelude.{ℕ, ◌+◌, ◌*◌, ◌≤◌, ◌≡◌, false, cond, List, [], ◌∷◌, get_or}
+use Rattle.std.specs.Prelude.{ℕ, ◌≤◌, ◌≡◌, false, cond, List, [], ◌∷◌, get_or, Result, Ok, Err}
 use Rattle.std.proofs.Math.Option.{Option, none, some}
 use Rattle.masks.specs.Mask.{has}
 use Rattle.masks.specs.Names.{ENUM}
@@ -19,8 +19,6 @@ use Rattle.row_join.specs.joining.Leave.{leaves_as}
 use Rattle.visit.specs.declared.RowVisit.{RowVisit}
 use Rattle.visit.specs.Held.{args_in}
 use Rattle.run_state.specs.Course.{room_in, work_in, Low, Queued, RowsOnly}
-use Rattle.propagate.specs.declared.Went.{Went}
-use Rattle.propagate.specs.declared.Went.TheVariants.{On, Stop}
 use Rattle.layout.specs.Layout.{locals_at}
 
 -- what leaves keeps to the places of a row
@@ -67,10 +65,10 @@ unfoldable pub ways_in : List ℕ → Chunk → RowVisit → Leaving → List (�
 ways_in ws ch v l = passes_all ws ch v l (ways_of (exit_in v) v.at v.ins.a (condition ws v).mask)
 
 -- what has passed is what the machine puts; only rows of the chunk and the queue are written
-unfoldable pub Passed : List ℕ → List ℕ → List ℕ → RowVisit → Queue → List (ℕ × State) → Went → Type 0
-Passed s ws u v q os (On r) =
+unfoldable pub Passed : List ℕ → List ℕ → List ℕ → RowVisit → Queue → List (ℕ × State) → Result Queue ℕ → Type 0
+Passed s ws u v q os (Ok r) =
     (puts join (room_in s ws) (work_in s ws v.chunk q) os ≡ ok (work_in s u v.chunk r))
     × RowsOnly s v.chunk ws u
     × Low s u v.chunk
     × Queued s u v.chunk r
-Passed s ws u v q os (Stop n) = puts join (room_in s ws) (work_in s ws v.chunk q) os ≡ bad n
+Passed s ws u v q os (Err n) = puts join (room_in s ws) (work_in s ws v.chunk q) os ≡ bad n

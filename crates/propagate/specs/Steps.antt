@@ -1,5 +1,5 @@
 -- What the parts of one way say: whether it is cut, the local that it narrows, how its target is queued, and where it may be taken.
-use Rattle.std.specs.Prelude.{ℕ, ◌+◌, ◌*◌, ◌-◌, ◌<◌, ◌≤◌, ◌≡◌, ◌⊎◌, Bool, false, not, List, length, get_or}
+use Rattle.std.specs.Prelude.{ℕ, ◌+◌, ◌*◌, ◌-◌, ◌<◌, ◌≤◌, ◌≡◌, ◌⊎◌, Bool, false, not, List, length, get_or, Option, Some, None, Result, Ok, Err}
 use Rattle.masks.specs.Mask.{has}
 use Rattle.masks.specs.Names.{ENUM}
 use Rattle.ring.specs.declared.Queue.{Queue}
@@ -19,33 +19,29 @@ use Rattle.row_join.specs.joining.Leave.{JoinReady}
 use Rattle.visit.specs.declared.RowVisit.{RowVisit}
 use Rattle.visit.specs.Held.{Looking}
 use Rattle.run_state.specs.Course.{Low, Queued}
-use Rattle.ways.specs.declared.Narrows.{Narrows}
-use Rattle.ways.specs.declared.Narrows.TheVariants.{Nothing, Local}
 use Rattle.propagate.specs.Passing.{LeavesInRow, locals_of}
-use Rattle.propagate.specs.declared.Went.{Went}
-use Rattle.propagate.specs.declared.Went.TheVariants.{On, Stop}
 
 -- the receiver may be an enum
 abbrev pub may_be : List ℕ → Chunk → RowVisit → ℕ → Bool
 may_be ws ch v r = has (get_or (locals_of ws ch v) r no_cell).mask ENUM
 
-abbrev pub cut_in : List ℕ → Chunk → RowVisit → Narrows → Bool
-cut_in ws ch v Nothing = false
-cut_in ws ch v (Local r) = not (may_be ws ch v r)
+abbrev pub cut_in : List ℕ → Chunk → RowVisit → Option ℕ → Bool
+cut_in ws ch v None = false
+cut_in ws ch v (Some r) = not (may_be ws ch v r)
 
-abbrev pub local_on : Narrows → ℕ
-local_on Nothing = no_local
-local_on (Local r) = r
+abbrev pub local_on : Option ℕ → ℕ
+local_on None = no_local
+local_on (Some r) = r
 
 -- the queue stands in the words behind W
 abbrev pub QueueStands : List ℕ → Tables → Queue → Type 0
 QueueStands ws t q = QueueReady ws t.queue_at q
 
-unfoldable pub Enqueued : List ℕ → List ℕ → ℕ → Queue → ℕ → Went → Type 0
-Enqueued ws u base q to (On r) = (q.count < length ws - base) × (u ≡ pushed ws base q to) × (r ≡ grown q)
-Enqueued ws u base q to (Stop n) = (length ws - base ≤ q.count) × (u ≡ ws) × (n ≡ 8)
+unfoldable pub Enqueued : List ℕ → List ℕ → ℕ → Queue → ℕ → Result Queue ℕ → Type 0
+Enqueued ws u base q to (Ok r) = (q.count < length ws - base) × (u ≡ pushed ws base q to) × (r ≡ grown q)
+Enqueued ws u base q to (Err n) = (length ws - base ≤ q.count) × (u ≡ ws) × (n ≡ 8)
 
-abbrev pub EnqueuedIn : List ℕ → List ℕ → Tables → Queue → ℕ → Went → Type 0
+abbrev pub EnqueuedIn : List ℕ → List ℕ → Tables → Queue → ℕ → Result Queue ℕ → Type 0
 EnqueuedIn ws u t q to r = Enqueued ws u t.queue_at q to r
 
 -- the way to the row at p

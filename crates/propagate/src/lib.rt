@@ -12,15 +12,8 @@ use ops::Exit;
 use ring::{Queue, push};
 use row_join::{Leaving, Met, Way, leave};
 use visit::{RowVisit, operand};
-use ways::{Narrows, Ways, exit_of, narrowing, ways_of};
+use ways::{Ways, exit_of, narrowing, ways_of};
 use words::mask_at;
-
-// The queue after a way, or the number of the refusal.
-#[derive(Clone, Copy)]
-pub enum Went {
-    On(Queue),
-    Stop(u8),
-}
 
 fn maybe_enum(ws: &[u32], ch: Chunk, v: RowVisit, local: usize) -> bool
     requires { v.row + row_words ch ≤ length ws.now }
@@ -34,35 +27,35 @@ fn maybe_enum(ws: &[u32], ch: Chunk, v: RowVisit, local: usize) -> bool
 }
 
 // A way on which the receiver can't be an enum is cut.
-fn cut(ws: &[u32], ch: Chunk, v: RowVisit, narrow: Narrows) -> bool
+fn cut(ws: &[u32], ch: Chunk, v: RowVisit, narrow: Option<u16>) -> bool
     requires { v.row + row_words ch ≤ length ws.now }
     ensures { result ≡ cut_in ws.now ch v narrow }
 {
     match narrow {
-        Narrows::Nothing => false,
-        Narrows::Local(receiver) => !maybe_enum(ws, ch, v, receiver as usize),
+        None => false,
+        Some(receiver) => !maybe_enum(ws, ch, v, receiver as usize),
     }
 }
 
-fn narrowed_local(narrow: Narrows) -> u16
+fn narrowed_local(narrow: Option<u16>) -> u16
     ensures { result ≡ local_on narrow }
 {
     match narrow {
-        Narrows::Nothing => NO_LOCAL,
-        Narrows::Local(receiver) => receiver,
+        None => NO_LOCAL,
+        Some(receiver) => receiver,
     }
 }
 
-// 8 where the queue is full.
-fn enqueue(ws: &mut [u32], t: Tables, q: Queue, to: usize) -> Went
+// The queue after a way, or the number of the refusal: 8 where the queue is full.
+fn enqueue(ws: &mut [u32], t: Tables, q: Queue, to: usize) -> Result<Queue, u8>
     requires queue_stands { QueueStands ws.old t q }
     requires to_bound { to < 4294967296 }
     ensures { EnqueuedIn ws.old ws.new t q to result }
 {
     if q.count < ws.len() - t.queue_at {
-        return Went::On(push(ws, t.queue_at, q, to as u32));
+        return Ok(push(ws, t.queue_at, q, to as u32));
     }
-    Went::Stop(8)
+    Err(8)
 }
 
 // One way that is not cut, to an instruction inside the chunk.
@@ -75,7 +68,7 @@ fn pass(
     q: Queue,
     to: usize,
     narrow: u16,
-) -> Went
+) -> Result<Queue, u8>
     requires { Open ws.old t ch v l q to narrow }
     ensures { (s : List ℕ) → PassReady s ws.old t ch v l q → to < ch.count
         → Passed s ws.old ws.new v q ((to, leaves_with ws.old ch v l narrow) ∷ []) result
@@ -88,9 +81,9 @@ fn pass(
         narrow,
     };
     match leave(ws, ch, w, l) {
-        Met::Same => Went::On(q),
+        Met::Same => Ok(q),
         Met::Changed => enqueue(ws, t, q, to),
-        Met::Unequal => Went::Stop(18),
+        Met::Unequal => Err(18),
     }
 }
 
@@ -105,7 +98,7 @@ fn go(
     q: Queue,
     exit: Exit,
     to: usize,
-) -> Went
+) -> Result<Queue, u8>
     requires pass_ready { PassReady s.now ws.old t ch v l q }
     requires value { exit ≡ exit_in v }
     ensures passed { Passed s.now ws.old ws.new v q (passes ws.old ch v l to) result }
@@ -113,7 +106,7 @@ fn go(
 {
     let narrow = narrowing(exit, v.ins, operand(ws, v, 0), to);
     if cut(ws, ch, v, narrow) | (ch.count <= to) {
-        return Went::On(q);
+        return Ok(q);
     }
     pass(ws, t, ch, v, l, q, to, narrowed_local(narrow))
 }
@@ -127,7 +120,7 @@ pub fn go_all(
     v: RowVisit,
     l: Leaving,
     q: Queue,
-) -> Went
+) -> Result<Queue, u8>
     requires { PassReady s.now ws.old t ch v l q }
     ensures { Passed s.now ws.old ws.new v q (ways_in ws.old ch v l) result }
 {
@@ -136,11 +129,11 @@ pub fn go_all(
     let ruled = rule.exit;
     let exit = exit_of(ruled, v.ins, v.at);
     match ways_of(exit, v.ins, v.at, condition.mask) {
-        Ways::Zero => Went::On(q),
+        Ways::Zero => Ok(q),
         Ways::One(to) => go(s, ws, t, ch, v, l, q, exit, to),
-        Ways::Two(next, target) => match go(s, ws, t, ch, v, l, q, exit, next) {
-            Went::Stop(n) => Went::Stop(n),
-            Went::On(q) => go(s, ws, t, ch, v, l, q, exit, target),
-        },
+        Ways::Two(next, target) => {
+            let q = go(s, ws, t, ch, v, l, q, exit, next)?;
+            go(s, ws, t, ch, v, l, q, exit, target)
+        }
     }
 }

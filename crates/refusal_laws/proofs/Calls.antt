@@ -6,12 +6,9 @@ use mathlib.Core.Bool.{Bool, true, false, cond}
 use mathlib.Core.List.{List, ◌++◌}
 use lib.Dec.{ltb, leb}
 use lib.ListN.{length, drop, replicate}
-use Rattle.answers.specs.Answers.{nowhere}
+use Rattle.std.specs.Prelude.{Result, Ok, Err}
+use Rattle.answers.specs.Answers.{nowhere, accepts}
 use Rattle.answers.specs.declared.Refusal.{Refusal}
-use Rattle.answers.specs.declared.Answer.TheVariants.{Accepted, Refused}
-use Rattle.definition.specs.declared.Form.{Form}
-use Rattle.definition.specs.declared.Form.TheVariants.{Fine}
-use Rattle.definition.specs.declared.Form.TheVariants.{Refused as Malformed}
 use Rattle.definition.specs.Module.{module_of}
 use Rattle.definition.specs.Form.{form_of}
 use Rattle.definition.specs.Report.{report_bytes}
@@ -30,10 +27,10 @@ later : (d : Decided) → OfDecided Late d → OfDecided Numbered d
 later (reported r steps) h = tt
 later (turned r) h = (omega arith, omega arith)
 
-on-form : (s : List ℕ) (words limit : ℕ) (f : Form) → OfForm Early f → OfDecided Numbered (on_form s words limit f)
+on-form : (s : List ℕ) (words limit : ℕ) (f : Result ℕ Refusal) → OfForm Early f → OfDecided Numbered (on_form s words limit f)
 unfolding on_form
-on-form s words limit (Malformed r) h = (omega arith, omega arith)
-on-form s words limit (Fine w) h =
+on-form s words limit (Err r) h = (omega arith, omega arith)
+on-form s words limit (Ok w) h =
     either (OfDecided Numbered) (leb words w) (omega arith, omega arith) (later (decided (module_of s) (words - w) limit) (decided-late (module_of s) (words - w) limit))
 
 decide-numbered : (s : List ℕ) (words limit : ℕ) → OfDecided Numbered (decide s words limit)
@@ -47,36 +44,36 @@ record Back (o : Outcome) (ws buf : List ℕ) (r : Refusal) : Type 0 where
   workspace : o.workspace ≡ left_words r.number ws
 
 module _ (ws buf : List ℕ) (r : Refusal) where
-  turned-back : (q : Refusal) → Numbered q.number → (turned_back q ws buf).answer ≡ Refused r → Back (turned_back q ws buf) ws buf r
+  turned-back : (q : Refusal) → Numbered q.number → (turned_back q ws buf).answer ≡ Err r → Back (turned_back q ws buf) ws buf r
   unfolding turned_back
   turned-back q h e = let same : q ≡ r = cc in rw (← same) (record { numbered = h; report = refl; workspace = refl })
 
-  delivered-back : (bytes : List ℕ) (steps : ℕ) → (delivered bytes steps ws buf).answer ≡ Refused r → Back (delivered bytes steps ws buf) ws buf r
+  delivered-back : (bytes : List ℕ) (steps : ℕ) → (delivered bytes steps ws buf).answer ≡ Err r → Back (delivered bytes steps ws buf) ws buf r
   unfolding delivered
   delivered-back bytes steps e = go (ltb (length buf) (length bytes)) e
     where
       done : Outcome
-      done = record { answer = Accepted (length bytes) steps; report = bytes ++ drop (length bytes) buf; workspace = replicate (length ws) 0 }
+      done = record { answer = accepts (length bytes) steps; report = bytes ++ drop (length bytes) buf; workspace = replicate (length ws) 0 }
 
-      go : (b : Bool) → (cond b (turned_back (nowhere 6 steps) ws buf) done).answer ≡ Refused r → Back (cond b (turned_back (nowhere 6 steps) ws buf) done) ws buf r
+      go : (b : Bool) → (cond b (turned_back (nowhere 6 steps) ws buf) done).answer ≡ Err r → Back (cond b (turned_back (nowhere 6 steps) ws buf) done) ws buf r
       go true e = turned-back (nowhere 6 steps) (omega arith, omega arith) e
       go false e = absurd (let z : ◌≡◌ {A = ℕ} 0 1 = cc in omega arith)
 
-  outcome-back : (d : Decided) → OfDecided Numbered d → (outcome_of d ws buf).answer ≡ Refused r → Back (outcome_of d ws buf) ws buf r
+  outcome-back : (d : Decided) → OfDecided Numbered d → (outcome_of d ws buf).answer ≡ Err r → Back (outcome_of d ws buf) ws buf r
   unfolding outcome_of
   outcome-back (reported x steps) h e = delivered-back (report_bytes x) steps e
   outcome-back (turned q) h e = turned-back q h e
 
-call_back : (s ws buf : List ℕ) (limit : ℕ) (r : Refusal) → (call s ws buf limit).answer ≡ Refused r → Back (call s ws buf limit) ws buf r
+call_back : (s ws buf : List ℕ) (limit : ℕ) (r : Refusal) → (call s ws buf limit).answer ≡ Err r → Back (call s ws buf limit) ws buf r
 unfolding call
 call_back s ws buf limit r e = outcome-back ws buf r (decide s (length ws) limit) (decide-numbered s (length ws) limit) e
 
 -- THEOREM
-pub refused-numbers : (s ws buf : List ℕ) (limit : ℕ) (r : Refusal) → (call s ws buf limit).answer ≡ Refused r → (0 < r.number) × (r.number ≤ 18)
+pub refused-numbers : (s ws buf : List ℕ) (limit : ℕ) (r : Refusal) → (call s ws buf limit).answer ≡ Err r → (0 < r.number) × (r.number ≤ 18)
 refused-numbers s ws buf limit r e = (call_back s ws buf limit r e).numbered
 
 -- THEOREM
-pub untouched-exactly : (s ws buf : List ℕ) (limit : ℕ) (r : Refusal) → (call s ws buf limit).answer ≡ Refused r
+pub untouched-exactly : (s ws buf : List ℕ) (limit : ℕ) (r : Refusal) → (call s ws buf limit).answer ≡ Err r
     → ((call s ws buf limit).report ≡ buf)
     × ((r.number ≤ 5 → (call s ws buf limit).workspace ≡ ws) × (6 ≤ r.number → (call s ws buf limit).workspace ≡ replicate (length ws) 0))
 untouched-exactly s ws buf limit r e =
@@ -86,14 +83,14 @@ untouched-exactly s ws buf limit r e =
     )
 
 -- ---- what an accepted call leaves
-outcome-zero : (d : Decided) (ws buf : List ℕ) (long steps : ℕ) → (outcome_of d ws buf).answer ≡ Accepted long steps
+outcome-zero : (d : Decided) (ws buf : List ℕ) (long steps : ℕ) → (outcome_of d ws buf).answer ≡ accepts long steps
     → (outcome_of d ws buf).workspace ≡ replicate (length ws) 0
 unfolding outcome_of turned_back
 outcome-zero (reported r n) ws buf long steps e = delivered-zero (report_bytes r) n ws buf
 outcome-zero (turned r) ws buf long steps e = absurd (let z : ◌≡◌ {A = ℕ} 0 1 = cc in omega arith)
 
 -- THEOREM
-pub accepted-zero : (s ws buf : List ℕ) (limit long steps : ℕ) → (call s ws buf limit).answer ≡ Accepted long steps
+pub accepted-zero : (s ws buf : List ℕ) (limit long steps : ℕ) → (call s ws buf limit).answer ≡ accepts long steps
     → (call s ws buf limit).workspace ≡ replicate (length ws) 0
 unfolding call
 accepted-zero s ws buf limit long steps e = outcome-zero (decide s (length ws) limit) ws buf long steps e

@@ -6,6 +6,7 @@ use mathlib.Core.Bool.{Bool, true, false, cond, ◌&&◌, ◌||◌}
 use mathlib.Core.List.{List, [], ◌∷◌}
 use lib.Dec.{eqb, ltb}
 use lib.ListN.{length}
+use Rattle.std.proofs.Common.{Result, Ok, Err}
 use Rattle.answers.specs.Answers.{in_field}
 use Rattle.answers.specs.declared.Refusal.{Refusal}
 use Rattle.description.specs.Fields.{tag_at, next_at, fields_from}
@@ -13,10 +14,6 @@ use Rattle.description.specs.declared.Header.{Header}
 use Rattle.description.specs.declared.ChunkHead.{ChunkHead}
 use Rattle.description.specs.declared.Instr.{Instr}
 use Rattle.definition.specs.declared.Scan.{Scan}
-use Rattle.definition.specs.declared.ScanStep.{ScanStep}
-use Rattle.definition.specs.declared.ScanStep.TheVariants.{Go, Stop}
-use Rattle.definition.specs.declared.Form.{Form}
-use Rattle.definition.specs.declared.Form.TheVariants.{Fine, Refused}
 use Rattle.definition.specs.Form.{lowest, header_fault, chunk_fault, instr_fault, site_fault, table_fault, or_stop, header_step, chunk_step, instr_step, site_step, table_step, field_step, late_fault, late_look, after_look, finished, on_step, scan_from, unscanned, form_of}
 use Rattle.refusal_laws.proofs.Only.{either, OfFault, OfStep, OfForm, there}
 use Rattle.refusal_laws.proofs.Numbers.{Early}
@@ -37,7 +34,7 @@ lowest-fault a b c d =
     (either (OfFault Early) c (omega arith, omega arith) (either (OfFault Early) d (omega arith, omega arith) tt)))
 
 -- ---- the steps of the walk
-unfoldable stopping : ℕ → Refusal → Scan → ScanStep
+unfoldable stopping : ℕ → Refusal → Scan → Result Scan Refusal
 stopping n r t = or_stop n r t
 
 is-stopping : (n : ℕ) (r : Refusal) (t : Scan) → or_stop n r t ≡ stopping n r t
@@ -48,7 +45,7 @@ or-stop : (n : ℕ) (r : Refusal) (t : Scan) → OfFault Early n → r.number �
 unfolding stopping
 or-stop n r t l e = go (eqb n 0) refl
   where
-    go : (b : Bool) → eqb n 0 ≡ b → OfStep Early (cond b (Go t) (Stop r))
+    go : (b : Bool) → eqb n 0 ≡ b → OfStep Early (cond b (Ok t) (Err r))
     go true h = tt
     go false h = rw e (there Early n l h)
 
@@ -126,15 +123,15 @@ after_look_lem : (r : Refusal) (w : ℕ) → OfFault Early r.number → OfForm E
 unfolding after_look
 after_look_lem r w l = go (eqb r.number 0) refl
   where
-    go : (b : Bool) → eqb r.number 0 ≡ b → OfForm Early (cond b (Fine w) (Refused r))
+    go : (b : Bool) → eqb r.number 0 ≡ b → OfForm Early (cond b (Ok w) (Err r))
     go true h = tt
     go false h = there Early r.number l h
 
 -- ---- the whole
-on_step_lem : (x : ScanStep) (k : Scan → Form) → OfStep Early x → ((u : Scan) → OfForm Early (k u)) → OfForm Early (on_step x k)
+on_step_lem : (x : Result Scan Refusal) (k : Scan → Result ℕ Refusal) → OfStep Early x → ((u : Scan) → OfForm Early (k u)) → OfForm Early (on_step x k)
 unfolding on_step
-on_step_lem (Go u) k h more = more u
-on_step_lem (Stop r) k h more = h
+on_step_lem (Ok u) k h more = more u
+on_step_lem (Err r) k h more = h
 
 scan-form : (s ps : List ℕ) (t : Scan) → OfForm Early (scan_from s ps t)
 unfolding scan_from finished
@@ -146,5 +143,5 @@ unfolding form_of
 form-early s = either (OfForm Early) (ltb 1048576 (length s)) (omega arith, omega arith) (scan-form s (fields_from s 0) unscanned)
 
 -- THEOREM
-pub form-numbers : (s : List ℕ) (r : Refusal) → form_of s ≡ Refused r → (0 < r.number) × (r.number ≤ 4)
+pub form-numbers : (s : List ℕ) (r : Refusal) → form_of s ≡ Err r → (0 < r.number) × (r.number ≤ 4)
 form-numbers s r e = rw e at (form-early s)

@@ -9,11 +9,11 @@ use lib.Dec.{ltb}
 use lib.ListN.{length, take, drop, replicate}
 use lib.Seq.{take_at}
 use borrow.Author.Tests.{ltb-true, ltb-false}
+use Rattle.std.specs.Prelude.{Err}
 use Rattle.masks.proofs.Both.{never}
-use Rattle.answers.specs.Answers.{nowhere}
+use Rattle.answers.specs.Answers.{nowhere, accepts, accepts_with}
+use Rattle.answers.proofs.Told.{accepts-same, accepts_with-same}
 use Rattle.answers.specs.declared.Refusal.{Refusal}
-use Rattle.answers.specs.declared.Answer.TheVariants.{Accepted, Refused}
-use Rattle.answers.specs.declared.IndexedAnswer.TheVariants.{Accepted as AcceptedWith, Refused as RefusedWith}
 use Rattle.definition.specs.Module.{Module}
 use Rattle.definition.specs.Report.{report_bytes}
 use Rattle.definition.specs.Call.{Decided, reported, turned, decided, decide, Outcome, left_words, turned_back, delivered, outcome_of, call}
@@ -24,11 +24,11 @@ use Rattle.refusal_laws.proofs.Calls.{refused-numbers, untouched-exactly, accept
 
 -- what is left with an index, beside what is left without: the same refusal; 19, the index being too long; the same report, and the index x
 data Beside (buf idx : List ℕ) (o : Outcome) : IndexedOutcome → Type 0 where
-  same : (r : Refusal) → o.answer ≡ Refused r → Beside buf idx o (record { answer = RefusedWith r; report = o.report; index = idx; workspace = o.workspace })
-  short : (long steps : ℕ) → o.answer ≡ Accepted long steps → length idx < length (index_of (take long o.report))
-      → Beside buf idx o (record { answer = RefusedWith (nowhere 19 steps); report = buf; index = idx; workspace = o.workspace })
-  whole : (long steps : ℕ) (x : List ℕ) → o.answer ≡ Accepted long steps → index_of (take long o.report) ≡ x → length x ≤ length idx
-      → Beside buf idx o (record { answer = AcceptedWith long steps (length x); report = o.report; index = x ++ drop (length x) idx; workspace = o.workspace })
+  same : (r : Refusal) → o.answer ≡ Err r → Beside buf idx o (record { answer = Err r; report = o.report; index = idx; workspace = o.workspace })
+  short : (long steps : ℕ) → o.answer ≡ accepts long steps → length idx < length (index_of (take long o.report))
+      → Beside buf idx o (record { answer = Err (nowhere 19 steps); report = buf; index = idx; workspace = o.workspace })
+  whole : (long steps : ℕ) (x : List ℕ) → o.answer ≡ accepts long steps → index_of (take long o.report) ≡ x → length x ≤ length idx
+      → Beside buf idx o (record { answer = accepts_with long steps (length x); report = o.report; index = x ++ drop (length x) idx; workspace = o.workspace })
 
 outcome-beside : (d : Decided) (ws buf idx : List ℕ) → Beside buf idx (outcome_of d ws buf) (outcome_with d ws buf idx)
 unfolding outcome_of outcome_with delivered delivered_with turned_back turned_back_with left_words
@@ -42,10 +42,10 @@ outcome-beside (reported q steps) ws buf idx = go (ltb (length buf) (length bs))
     x = index_of bs
 
     sent : Outcome
-    sent = record { answer = Accepted (length bs) steps; report = bs ++ drop (length bs) buf; workspace = replicate (length ws) 0 }
+    sent = record { answer = accepts (length bs) steps; report = bs ++ drop (length bs) buf; workspace = replicate (length ws) 0 }
 
     both : IndexedOutcome
-    both = record { answer = AcceptedWith (length bs) steps (length x); report = sent.report; index = x ++ drop (length x) idx; workspace = sent.workspace }
+    both = record { answer = accepts_with (length bs) steps (length x); report = sent.report; index = x ++ drop (length x) idx; workspace = sent.workspace }
 
     own : index_of (take (length bs) (bs ++ drop (length bs) buf)) ≡ x
     own = ap index_of (take_at bs (drop (length bs) buf) (length bs) refl)
@@ -59,9 +59,9 @@ outcome-beside (reported q steps) ws buf idx = go (ltb (length buf) (length bs))
 
 module _ {buf idx : List ℕ} {o : Outcome} where
   -- a refusal is that of the call without an index, or 19
-  refused-by : {w : IndexedOutcome} → Beside buf idx o w → (r : Refusal) → w.answer ≡ RefusedWith r
-      → (w.index ≡ idx) × (((o.answer ≡ Refused r) × (w.report ≡ o.report)) ⊎ ((r ≡ nowhere 19 r.steps) × (w.report ≡ buf) × TooLong o idx r.steps))
-  refused-by (same q e) r h = let z : q ≡ r = cc in (refl, inl (e ∙ ap Refused z, refl))
+  refused-by : {w : IndexedOutcome} → Beside buf idx o w → (r : Refusal) → w.answer ≡ Err r
+      → (w.index ≡ idx) × (((o.answer ≡ Err r) × (w.report ≡ o.report)) ⊎ ((r ≡ nowhere 19 r.steps) × (w.report ≡ buf) × TooLong o idx r.steps))
+  refused-by (same q e) r h = let z : q ≡ r = cc in (refl, inl (e ∙ ap Err z, refl))
   refused-by (short long steps e l) r h = let z : nowhere 19 steps ≡ r = cc in rw (← z) (refl, inr (refl, refl, (long, e, l)))
   refused-by (whole long steps x e i l) r h = never (cc)
 
@@ -70,33 +70,32 @@ module _ {buf idx : List ℕ} {o : Outcome} where
   workspace-by (short long steps e l) = refl
   workspace-by (whole long steps x e i l) = refl
 
-  refused-too : {w : IndexedOutcome} → Beside buf idx o w → (r : Refusal) → o.answer ≡ Refused r → w.answer ≡ RefusedWith r
+  refused-too : {w : IndexedOutcome} → Beside buf idx o w → (r : Refusal) → o.answer ≡ Err r → w.answer ≡ Err r
   refused-too (same q e) r h = cc
   refused-too (short long steps e l) r h = never (cc)
   refused-too (whole long steps x e i l) r h = never (cc)
 
-  too_long : {w : IndexedOutcome} → Beside buf idx o w → (steps : ℕ) → TooLong o idx steps → w.answer ≡ RefusedWith (nowhere 19 steps)
+  too_long : {w : IndexedOutcome} → Beside buf idx o w → (steps : ℕ) → TooLong o idx steps → w.answer ≡ Err (nowhere 19 steps)
   too_long (same r e) steps (long, h, k) = never (cc)
-  too_long (short m n e l) steps (long, h, k) = let z : n ≡ steps = cc in ap (λ (i : ℕ). RefusedWith (nowhere 19 i)) z
+  too_long (short m n e l) steps (long, h, k) = ap (λ (i : ℕ). Err (nowhere 19 i)) (accepts-same (sym e ∙ h)).1
   too_long (whole m n x e i l) steps (long, h, k) =
-      let z : m ≡ long = cc in
+      let z : m ≡ long = (accepts-same (sym e ∙ h)).0 in
       absurd (omega (arith, ap length (sym i ∙ ap (λ (j : ℕ). index_of (take j o.report)) z)))
 
 -- beside what an accepted call with an index leaves: what the call without leaves, and the index of its report
 pub record LeftWith (o : Outcome) (w : IndexedOutcome) (idx : List ℕ) (long steps n : ℕ) : Type 0 where
-  pub answer : o.answer ≡ Accepted long steps
+  pub answer : o.answer ≡ accepts long steps
   pub report : o.report ≡ w.report
   pub size : length (index_of (take long o.report)) ≡ n
   pub index : w.index ≡ index_of (take long o.report) ++ drop n idx
 
-left_by : {buf idx : List ℕ} {o : Outcome} {w : IndexedOutcome} → Beside buf idx o w → (long steps n : ℕ) → w.answer ≡ AcceptedWith long steps n → LeftWith o w idx long steps n
+left_by : {buf idx : List ℕ} {o : Outcome} {w : IndexedOutcome} → Beside buf idx o w → (long steps n : ℕ) → w.answer ≡ accepts_with long steps n → LeftWith o w idx long steps n
 left_by (same r e) long steps n h = never (cc)
 left_by (short k j e l) long steps n h = never (cc)
 left_by {idx = idx} {o = o} (whole k j x e i l) long steps n h =
-    let a : k ≡ long = cc in
-    let b : length x ≡ n = cc in
+    let (a, c, b) = accepts_with-same h in
     let z : index_of (take long o.report) ≡ x = rw (← a) i in
-    record { answer = cc; report = refl; size = ap length z ∙ b; index = rw (z, ← b) }
+    record { answer = rw (← a, ← c) e; report = refl; size = ap length z ∙ b; index = rw (z, ← b) }
 
 pub outcome-with-zero : (m : Module) (cap limit : ℕ) (ws buf idx : List ℕ) → (outcome_with (decided m cap limit) ws buf idx).workspace ≡ replicate (length ws) 0
 outcome-with-zero m cap limit ws buf idx = workspace-by (outcome-beside (decided m cap limit) ws buf idx) ∙ decided-zero m cap limit ws buf
@@ -107,12 +106,12 @@ module _ (s ws buf idx : List ℕ) (limit : ℕ) where
   beside = outcome-beside (decide s (length ws) limit) ws buf idx
 
   -- THEOREM
-  pub indexed-numbers : (r : Refusal) → (call_indexed s ws buf idx limit).answer ≡ RefusedWith r → (0 < r.number) × (r.number ≤ 19)
+  pub indexed-numbers : (r : Refusal) → (call_indexed s ws buf idx limit).answer ≡ Err r → (0 < r.number) × (r.number ≤ 19)
   indexed-numbers r e =
       ⊎_elim (λ a. let n = refused-numbers s ws buf limit r a.0 in (n.0, omega (arith, n.1))) (λ a. rw a.0 (omega arith, omega arith)) (refused-by beside r e).1
 
   -- THEOREM
-  pub indexed-untouched : (r : Refusal) → (call_indexed s ws buf idx limit).answer ≡ RefusedWith r
+  pub indexed-untouched : (r : Refusal) → (call_indexed s ws buf idx limit).answer ≡ Err r
       → ((call_indexed s ws buf idx limit).report ≡ buf)
       × ((call_indexed s ws buf idx limit).index ≡ idx)
       × ((r.number ≤ 5 → (call_indexed s ws buf idx limit).workspace ≡ ws)
@@ -124,31 +123,31 @@ module _ (s ws buf idx : List ℕ) (limit : ℕ) where
       (λ a. (a.1, i, (λ l. absurd (omega (arith, ap (λ (q : Refusal). q.number) a.0)), λ l. w ∙ accepted-zero s ws buf limit a.2.0 r.steps a.2.1))) b
 
   -- THEOREM: what the call without an index refuses, the call with one refuses alike
-  pub indexed-refused : (r : Refusal) → (call s ws buf limit).answer ≡ Refused r → (call_indexed s ws buf idx limit).answer ≡ RefusedWith r
+  pub indexed-refused : (r : Refusal) → (call s ws buf limit).answer ≡ Err r → (call_indexed s ws buf idx limit).answer ≡ Err r
   indexed-refused = refused-too beside
 
   -- THEOREM: and nothing else, except by 19
-  pub indexed-as : (r : Refusal) → (call_indexed s ws buf idx limit).answer ≡ RefusedWith r → r.number ≤ 18 → (call s ws buf limit).answer ≡ Refused r
+  pub indexed-as : (r : Refusal) → (call_indexed s ws buf idx limit).answer ≡ Err r → r.number ≤ 18 → (call s ws buf limit).answer ≡ Err r
   indexed-as r e l = ⊎_elim (λ a. a.0) (λ a. absurd (omega (arith, ap (λ (q : Refusal). q.number) a.0))) (refused-by beside r e).1
 
   -- THEOREM: 19 names nothing, has the steps of the run, and is found only where the index does not fit
-  pub nineteen-nowhere : (r : Refusal) → (call_indexed s ws buf idx limit).answer ≡ RefusedWith r → r.number ≡ 19
+  pub nineteen-nowhere : (r : Refusal) → (call_indexed s ws buf idx limit).answer ≡ Err r → r.number ≡ 19
       → (r ≡ nowhere 19 r.steps) × TooLong (call s ws buf limit) idx r.steps
   nineteen-nowhere r e h =
       ⊎_elim (λ a. absurd (omega (arith, (refused-numbers s ws buf limit r a.0).1))) (λ a. (a.0, a.2)) (refused-by beside r e).1
 
   -- THEOREM: and there it is the answer
   pub nineteen-exactly : (steps : ℕ)
-      → ((call_indexed s ws buf idx limit).answer ≡ RefusedWith (nowhere 19 steps) → TooLong (call s ws buf limit) idx steps)
-      × (TooLong (call s ws buf limit) idx steps → (call_indexed s ws buf idx limit).answer ≡ RefusedWith (nowhere 19 steps))
+      → ((call_indexed s ws buf idx limit).answer ≡ Err (nowhere 19 steps) → TooLong (call s ws buf limit) idx steps)
+      × (TooLong (call s ws buf limit) idx steps → (call_indexed s ws buf idx limit).answer ≡ Err (nowhere 19 steps))
   nineteen-exactly steps = (λ e. (nineteen-nowhere (nowhere 19 steps) e refl).1, λ t. too_long beside steps t)
 
-  module _ (long steps n : ℕ) (e : (call_indexed s ws buf idx limit).answer ≡ AcceptedWith long steps n) where
+  module _ (long steps n : ℕ) (e : (call_indexed s ws buf idx limit).answer ≡ accepts_with long steps n) where
     pub indexed-left : LeftWith (call s ws buf limit) (call_indexed s ws buf idx limit) idx long steps n
     indexed-left = left_by beside long steps n e
 
     -- THEOREM
-    pub indexed-accepted : ((call s ws buf limit).answer ≡ Accepted long steps) × ((call s ws buf limit).report ≡ (call_indexed s ws buf idx limit).report)
+    pub indexed-accepted : ((call s ws buf limit).answer ≡ accepts long steps) × ((call s ws buf limit).report ≡ (call_indexed s ws buf idx limit).report)
     indexed-accepted = (indexed-left.answer, indexed-left.report)
 
     -- THEOREM

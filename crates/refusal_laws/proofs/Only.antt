@@ -5,14 +5,13 @@ use mathlib.Core.Bool.{Bool, true, false, cond}
 use mathlib.Core.Option.{Option, none, some}
 use lib.Dec.{eqb}
 use borrow.Author.Tests.{eqb-false}
-use Rattle.definition.specs.declared.ScanStep.{ScanStep}
-use Rattle.definition.specs.declared.ScanStep.TheVariants.{Go, Stop}
-use Rattle.definition.specs.declared.Form.{Form}
-use Rattle.definition.specs.declared.Form.TheVariants.{Fine, Refused}
+use Rattle.std.proofs.Common.{Result, Ok, Err}
 use Rattle.definition.specs.Res.{Res, ok, bad, bind}
 use Rattle.definition.specs.Machine.{Where, due, done, stop, Ran, accepted, refused}
 use Rattle.definition.specs.Leaves.{unless}
 use Rattle.definition.specs.Call.{Decided, reported, turned}
+use Rattle.answers.specs.declared.Refusal.{Refusal}
+use Rattle.definition.specs.declared.Scan.{Scan}
 
 -- what both choices have, the choice has
 pub either : {A : Type 0} (P : A → Type 0) (b : Bool) {x y : A} → P x → P y → P (cond b x y)
@@ -46,13 +45,13 @@ abbrev pub OfDecided : (ℕ → Type 0) → Decided → Type 0
 OfDecided P (reported r steps) = Unit {0}
 OfDecided P (turned r) = P r.number
 
-abbrev pub OfStep : (ℕ → Type 0) → ScanStep → Type 0
-OfStep P (Go t) = Unit {0}
-OfStep P (Stop r) = P r.number
+abbrev pub OfStep : (ℕ → Type 0) → Result Scan Refusal → Type 0
+OfStep P (Ok t) = Unit {0}
+OfStep P (Err r) = P r.number
 
-abbrev pub OfForm : (ℕ → Type 0) → Form → Type 0
-OfForm P (Fine w) = Unit {0}
-OfForm P (Refused r) = P r.number
+abbrev pub OfForm : (ℕ → Type 0) → Result ℕ Refusal → Type 0
+OfForm P (Ok w) = Unit {0}
+OfForm P (Err r) = P r.number
 
 module _ (P : ℕ → Type 0) where
   pub bind-of : {A B : Type 0} (r : Res A) (f : A → Res B) → OfRes P r → ((a : A) → OfRes P (f a)) → OfRes P (bind r f)

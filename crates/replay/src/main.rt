@@ -3,7 +3,7 @@
 // written, and made it.
 #![tactic(auto)]
 
-use answers::Answer;
+use answers::{Accepted, Refusal};
 use facts::check;
 use le::{u8_at, u16_at, u32_at};
 use std::io;
@@ -14,56 +14,42 @@ use tally::{Tally, begun, counted, ended, note, read_full, say};
 // Marks that show each word and byte that was written: words are odd, bytes count up.
 fn mark_words(ws: &mut [u32]) {
     let mut mark: u32 = 1;
-    let mut i = 0;
-    while i < ws.len() {
-        ws[i] = mark;
+    for word in ws.iter_mut() {
+        *word = mark;
         mark = wrapping_add_u32(mark, 2);
-        i += 1;
     }
 }
 
 fn mark_bytes(buf: &mut [u8]) {
     let mut mark: u8 = 1;
-    let mut i = 0;
-    while i < buf.len() {
-        buf[i] = mark;
+    for byte in buf.iter_mut() {
+        *byte = mark;
         mark = wrapping_add_u8(mark, 1);
-        i += 1;
     }
 }
 
 fn words_marked(ws: &[u32]) -> bool {
     let mut mark: u32 = 1;
     let mut fine = true;
-    let mut i = 0;
-    while i < ws.len() {
-        fine = fine & (ws[i] == mark);
+    for word in ws {
+        fine = fine & (*word == mark);
         mark = wrapping_add_u32(mark, 2);
-        i += 1;
     }
     fine
 }
 
 fn words_zero(ws: &[u32]) -> bool {
-    let mut fine = true;
-    let mut i = 0;
-    while i < ws.len() {
-        fine = fine & (ws[i] == 0);
-        i += 1;
-    }
-    fine
+    ws.iter().all(|word| *word == 0)
 }
 
 // Whether the first n bytes are those of the report, and the others as they were.
 fn bytes_left(buf: &[u8], report: &[u8], n: usize) -> bool {
     let mut mark: u8 = 1;
     let mut fine = true;
-    let mut i = 0;
-    while i < buf.len() {
+    for (i, byte) in buf.iter().enumerate() {
         let wanted = if i < n { u8_at(report, i) } else { mark };
-        fine = fine & (buf[i] == wanted);
+        fine = fine & (*byte == wanted);
         mark = wrapping_add_u8(mark, 1);
-        i += 1;
     }
     fine
 }
@@ -77,12 +63,12 @@ fn words_left(ws: &[u32], number: u8) -> bool {
 }
 
 // Whether the answer's numbers are the stored ones.
-fn answers_as(answer: Answer, head: &[u8]) -> bool {
+fn answers_as(answer: Result<Accepted, Refusal>, head: &[u8]) -> bool {
     match answer {
-        Answer::Accepted { length, steps } => (u8_at(head, 16) == 0)
+        Ok(Accepted { length, steps }) => (u8_at(head, 16) == 0)
             & (steps == u32_at(head, 21))
             & (length == (u32_at(head, 25) as usize)),
-        Answer::Refused(r) => (u8_at(head, 16) == r.number)
+        Err(r) => (u8_at(head, 16) == r.number)
             & (u16_at(head, 17) == r.chunk)
             & (u16_at(head, 19) == r.instruction)
             & (u32_at(head, 21) == r.steps),
@@ -166,11 +152,12 @@ fn main(rt: HostRuntime) -> io::Result<()> {
     let mut input = rt.reader();
     let mut ws = [0u32; 16384];
     let mut buf = [0u8; 8192];
-    let mut left: u32 = 1000000;
     let mut t = begun();
-    while 0 < left {
+    for _ in 0..1000000u32 {
         t = turn(&rt, &mut input, &mut ws, &mut buf, t)?;
-        left = if t.more { left - 1 } else { 0 };
+        if !t.more {
+            break;
+        }
     }
     say(&rt, t)
 }

@@ -8,8 +8,7 @@ use mathlib.Core.Option.{Option, none, some}
 use mathlib.Core.List.{List, [], ◌∷◌, ◌++◌, Memᴰ}
 use lib.ListN.{length, get_or, length-append, length-map}
 use Rattle.le.specs.Le.{le32}
-use Rattle.answers.specs.declared.Answer.TheVariants.{Accepted}
-use Rattle.answers.specs.declared.IndexedAnswer.TheVariants.{Accepted as AcceptedWith}
+use Rattle.answers.specs.Answers.{accepts}
 use Rattle.definition.specs.Machine.{Final}
 use Rattle.definition.specs.Module.{Module, Chunk, module_of}
 use Rattle.definition.specs.State.{State, Facts}
@@ -104,7 +103,7 @@ no_longer s words limit r n h =
     (report-few (module_of s) w.reply w.final (numbered s) (rw (← w.says) at (consistent s words limit r n h)) (rw (← w.says) at (decided-proper s words limit n r h)))
 
 -- THEOREM: no call that is accepted has a longer report, whatever it is lent
-pub accepted-within : (s ws buf : List ℕ) (limit long steps : ℕ) → (call s ws buf limit).answer ≡ Accepted long steps → long ≤ most_report (module_of s)
+pub accepted-within : (s ws buf : List ℕ) (limit long steps : ℕ) → (call s ws buf limit).answer ≡ accepts long steps → long ≤ most_report (module_of s)
 accepted-within s ws buf limit long steps h =
     let d = accepted-left s ws buf limit long steps h in
     rw (← d.size) (no_longer s (length ws) limit d.report steps d.decides)

@@ -5,15 +5,15 @@
 ghost use Rattle.std.specs.Prelude.{◌≡◌, cond, ◌+◌, ◌-◌, ◌<◌, ◌≤◌, ◌^◌, length};
 ghost use Rattle.definition.specs.Bounds.{most_bytes};
 ghost use Rattle.definition.specs.Module.{module_of};
-ghost use Rattle.definition.specs.Ways.{is_reset};
 ghost use Rattle.definition.specs.Leaves.{hopeless};
+ghost use Rattle.definition.specs.Ways.{is_reset};
 ghost use Rattle.definition.specs.Report.{is_test};
-ghost use Rattle.report_bound.specs.Most.{least, written_guards, most_guards, highest, is_next, goes_on, height_after, inspection_most, unrecorded, record_most, instr_most, signature_most, most_report};
+ghost use Rattle.report_bound.specs.Most.{least, written_guards, most_guards, highest, goes_on, height_after, inspection_most, unrecorded, record_most, instr_most, signature_most, most_report};
 ghost use Rattle.report_bound.specs.Sizes.{SizesFor};
 ghost use Rattle.report_bound.specs.Walk.{chunk_within, instr_within, within_after, field_most};
 
 use answers::Refusal;
-use definition::{Form, params_in};
+use definition::params_in;
 use description::{Header, Instr, chunk_head_at, header_at, instr_at, next_at, tag_at};
 use form::check_form;
 use ops::{Acts, Asks, Data, Exit, Others, rule_of};
@@ -38,11 +38,11 @@ const SLOT: u64 = 52;
 
 const REPLY: u64 = 7;
 
-// Words of workspace and bytes of report buffer; or the refusal of a description that is not of good form.
+// Words of workspace and bytes of report buffer.
 #[derive(Clone, Copy)]
-pub enum Enough {
-    Room { words: u64, report: u64 },
-    Refused(Refusal),
+pub struct Room {
+    pub words: u64,
+    pub report: u64,
 }
 
 // The chunk that a field stands in: how many there were up to it, whether it is reachable, whether it is the entry, its locals and its stack;
@@ -61,7 +61,7 @@ pub struct Within {
 fn least(a: u64, b: u64) -> u64
     ensures { (result ≡ least a b) × (result ≤ a) × (result ≤ b) }
 {
-    if a < b { a } else { b }
+    a.min(b)
 }
 
 // The guards of a write: on what is written, and on its index where there is one.
@@ -105,53 +105,21 @@ fn inspection_most(others: Others) -> u64
     ensures { (result ≡ inspection_most others) × (result ≤ 7) }
 {
     match others {
-        Others::Unknowns => 0,
-        Others::Words => 0,
-        Others::Checked => 0,
-        Others::Copies => 0,
         Others::Tested(_) => INSPECTION,
-        Others::Status => 0,
+        _ => 0,
     }
 }
 
 fn is_test(exit: Exit) -> bool
     ensures { result ≡ is_test exit }
 {
-    match exit {
-        Exit::Next => false,
-        Exit::Stops => false,
-        Exit::Jumps => false,
-        Exit::Ifs => true,
-        Exit::Breaks => true,
-        Exit::Restarts => false,
-    }
+    (exit == Exit::Ifs) | (exit == Exit::Breaks)
 }
 
 fn is_reset(acts: Acts) -> bool
     ensures { result ≡ is_reset acts }
 {
-    match acts {
-        Acts::Still => false,
-        Acts::SetsLocal => false,
-        Acts::Yields => false,
-        Acts::Calls => false,
-        Acts::Returns => false,
-        Acts::Resets => true,
-        Acts::Stores => false,
-    }
-}
-
-fn is_next(exit: Exit) -> bool
-    ensures { result ≡ is_next exit }
-{
-    match exit {
-        Exit::Next => true,
-        Exit::Stops => false,
-        Exit::Jumps => false,
-        Exit::Ifs => false,
-        Exit::Breaks => false,
-        Exit::Restarts => false,
-    }
+    acts == Acts::Resets
 }
 
 // An instruction after which control only goes on to the next, with what lay below its operands.
@@ -159,9 +127,7 @@ fn goes_on(i: Instr) -> bool
     ensures { result ≡ goes_on i }
 {
     let rule = rule_of(i.op);
-    let exit = rule.exit;
-    let acts = rule.acts;
-    is_next(exit) & !is_reset(acts)
+    (rule.exit == Exit::Next) & !is_reset(rule.acts)
 }
 
 // What is left of n after m are taken.
@@ -189,17 +155,9 @@ fn is_hopeless(asks: Asks, a: u32) -> bool
     ensures { result ≡ hopeless asks a }
 {
     match asks {
-        Asks::Free => false,
-        Asks::First(_) => false,
-        Asks::Both(_, _) => false,
-        Asks::Yielded => false,
-        Asks::Returned => false,
-        Asks::Every(_) => false,
-        Asks::Ordered => false,
-        Asks::Same(_) => false,
-        Asks::Stored => false,
         Asks::PartOf(_) => 1 < a,
         Asks::Never => true,
+        _ => false,
     }
 }
 
@@ -231,12 +189,11 @@ fn record_most(i: Instr, w: Within) -> u64
     ensures { (result ≡ record_most w.locals w.stack w.height w.entry i) × (result ≤ 8388000) }
 {
     let rule = rule_of(i.op);
-    let acts = rule.acts;
     let asks = rule.asks;
     let slots = rule.slots;
     let taken = i.taken as u64;
     let given = i.given as u64;
-    let highest = highest(is_reset(acts), w.stack as u64, taken, given);
+    let highest = highest(is_reset(rule.acts), w.stack as u64, taken, given);
     let stack = least(w.height as u64, highest);
     let guards = most_guards(asks, slots, taken, w.entry);
     RECORD + CELL * (stack + (w.locals as u64)) + OUTPUT * given + GUARD * guards
@@ -250,9 +207,7 @@ fn instr_most(i: Instr, w: Within) -> u64
         return 0;
     }
     let rule = rule_of(i.op);
-    let others = rule.others;
-    let exit = rule.exit;
-    record_most(i, w) + inspection_most(others) + number(is_test(exit), BRANCH)
+    record_most(i, w) + inspection_most(rule.others) + number(is_test(rule.exit), BRANCH)
 }
 
 fn signature_most(params: u8, signed: bool) -> u64
@@ -353,15 +308,13 @@ pub fn most_report(s: &[u8]) -> u64
     n
 }
 
-// The least workspace, and a length that no report of the description passes.
-pub fn sizes(description: &[u8]) -> Enough
+// The least workspace, and a length that no report of the description passes; or the refusal of one that is not of good form.
+pub fn sizes(description: &[u8]) -> Result<Room, Refusal>
     ensures { SizesFor description.now result }
 {
-    match check_form(description) {
-        Form::Refused(r) => Enough::Refused(r),
-        Form::Fine(w) => Enough::Room {
-            words: w + 1,
-            report: most_report(description),
-        },
-    }
+    let w = check_form(description)?;
+    Ok(Room {
+        words: w + 1,
+        report: most_report(description),
+    })
 }

@@ -10,7 +10,7 @@ ghost use Rattle.definition.specs.Report.{sized_bytes, width_bytes, range_bytes,
 
 use cells::Cell;
 use extents::{BodyExtent, Extent};
-use flows::{Flow, Origin, Owned, Predicate};
+use flows::{Flow, Predicate};
 use le::{put8, put16, put32};
 use widths::Width;
 use words::{has_flow, load};
@@ -55,21 +55,18 @@ fn put_extent(buf: &mut [u8], at: usize, e: Extent) -> usize
     }
 }
 
-fn owned_byte(o: Owned) -> u8
+fn owned_byte(o: bool) -> u8
     ensures { result ≡ owned_byte o }
 {
-    match o {
-        Owned::No => 0,
-        Owned::Yes => 1,
-    }
+    if o { 1 } else { 0 }
 }
 
-fn origin_number(o: Origin) -> u16
+fn origin_number(o: Option<u16>) -> u16
     ensures { result ≡ origin_number o }
 {
     match o {
-        Origin::Nowhere => 65535,
-        Origin::Local(i) => i,
+        None => 65535,
+        Some(i) => i,
     }
 }
 

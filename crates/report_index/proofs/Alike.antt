@@ -7,13 +7,13 @@ use mathlib.Core.List.{List, [], ◌∷◌, Memᴰ}
 use lib.Dec.{eqb, ltb}
 use lib.ListN.{length}
 use borrow.Author.Tests.{eqb-true, ltb-true, ltb-false}
+use Rattle.std.specs.Prelude.{Ok, Err}
 use Rattle.masks.proofs.Both.{both}
 use Rattle.le.specs.Le.{at8, at32}
 use Rattle.answers.specs.Answers.{nowhere}
 use Rattle.lookup.specs.declared.Entry.{Entry}
 use Rattle.lookup.specs.declared.Part.{Part}
 use Rattle.lookup.specs.Find.{at_end, entries_in, names, part_of, first_of, found}
-use Rattle.report_index.specs.declared.Sought.TheVariants.{Found, Disagrees}
 use Rattle.report_index.specs.Index.{entry_no, entries_of, is_before, rises, matched, agrees, sought, Answered}
 use Rattle.report_index.specs.entries.Split.{Split}
 use Rattle.report_index.proofs.entries.Laws.{before-before, before-own}
@@ -115,12 +115,12 @@ module _ (s x : List ℕ) (h : agrees s x ≡ true) where
     unfolding found
     looked-nowhere none = first-none (at_end s) c i (entries_in s) (λ e k. none e ((agreed-match e).0 k))
 
-    answered : (p : Part) → found s c i ≡ p → p.first + p.size ≤ length s → Answered s x c i (Found p)
+    answered : (p : Part) → found s c i ≡ p → p.first + p.size ≤ length s → Answered s x c i (Ok p)
     unfolding sought
-    answered p e l = record { same = rw h (ap Found (sym e)); fits = λ q k. let r : p ≡ q = cc in rw (← r) l }
+    answered p e l = record { same = rw h (ap Ok (sym e)); fits = λ q k. let r : p ≡ q = cc in rw (← r) l }
 
     module _ (r : ℕ) (split : Split x (length x / 12) c i r) where
-      pub answers-entry : r < length x / 12 → names c i (entry_no x r) ≡ true → Answered s x c i (Found (part_of (entry_no x r)))
+      pub answers-entry : r < length x / 12 → names c i (entry_no x r) ≡ true → Answered s x c i (Ok (part_of (entry_no x r)))
       unfolding entries_of
       answers-entry l n =
           let e = entry_no x r in
@@ -142,13 +142,13 @@ module _ (s x : List ℕ) (h : agrees s x ≡ true) where
           go false t =
               absurd (true≢false (sym (mem-among m) ∙ sym (among-past x f (length x / 12) agreed-rise r there (ltb-false r (length x / 12) t))))
 
-      pub answers-end : (r < length x / 12 → names c i (entry_no x r) ≡ false) → Answered s x c i (Found (at_end s))
+      pub answers-end : (r < length x / 12 → names c i (entry_no x r) ≡ false) → Answered s x c i (Ok (at_end s))
       unfolding at_end
       answers-end other =
           answered (at_end s)
           (looked-nowhere (λ f m n. let k = at_split f m n in true≢false (sym n ∙ ap (names c i) k.1 ∙ other k.0)))
           (omega arith)
 
-pub answers-disagree : (s x : List ℕ) (c i : ℕ) → agrees s x ≡ false → Answered s x c i (Disagrees (nowhere 20 0))
+pub answers-disagree : (s x : List ℕ) (c i : ℕ) → agrees s x ≡ false → Answered s x c i (Err (nowhere 20 0))
 unfolding sought
 answers-disagree s x c i h = record { same = rw h; fits = λ p e. absurd (let z : ◌≡◌ {A = ℕ} 0 1 = cc in omega arith) }

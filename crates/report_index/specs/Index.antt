@@ -2,14 +2,13 @@
 -- report are those of the lookup's walk (lookup/specs/Find.antt: `entries_in`).
 -- Readings of docs/DECISIONS.md: 3b entries rise strictly, 3c "one for one" is a matching, not an order, 3d the whole walk counts.
 -- Nothing is left open: for any two lists of bytes `agrees` says yes or no. Recursion goes along lists, or counts down.
-use Rattle.std.specs.Prelude.{ℕ, zero, suc, ◌+◌, ◌*◌, ◌/◌, ◌%◌, ◌≤◌, ◌≡◌, Bool, true, false, cond, ◌&&◌, ◌||◌, List, [], ◌∷◌, ◌++◌, eqb, ltb, length}
+use Rattle.std.specs.Prelude.{ℕ, zero, suc, ◌+◌, ◌*◌, ◌/◌, ◌%◌, ◌≤◌, ◌≡◌, Bool, true, false, cond, ◌&&◌, ◌||◌, List, [], ◌∷◌, ◌++◌, Result, Ok, Err, eqb, ltb, length}
 use Rattle.le.specs.Le.{at16, at32, le16, le32}
 use Rattle.answers.specs.Answers.{nowhere}
 use Rattle.lookup.specs.declared.Entry.{Entry}
 use Rattle.lookup.specs.declared.Part.{Part}
 use Rattle.lookup.specs.Find.{entries_in, found}
-use Rattle.report_index.specs.declared.Sought.{Sought}
-use Rattle.report_index.specs.declared.Sought.TheVariants.{Found, Disagrees}
+use Rattle.answers.specs.declared.Refusal.{Refusal}
 
 -- ---- written
 unfoldable pub entry_bytes : Entry → List ℕ
@@ -59,10 +58,10 @@ unfoldable pub agrees : List ℕ → List ℕ → Bool
 agrees s x = eqb (length x % 12) 0 && rises (entries_of x) && matched (entries_in s) (entries_of x)
 
 -- ---- the lookup through an index: as the walk, or 20
-unfoldable pub sought : List ℕ → List ℕ → ℕ → ℕ → Sought
-sought s x c i = cond (agrees s x) (Found (found s c i)) (Disagrees (nowhere 20 0))
+unfoldable pub sought : List ℕ → List ℕ → ℕ → ℕ → Result Part Refusal
+sought s x c i = cond (agrees s x) (Ok (found s c i)) (Err (nowhere 20 0))
 
 -- this is answered, and a part that is handed out lies in the report
-pub record Answered (s x : List ℕ) (c i : ℕ) (r : Sought) : Type 0 where
+pub record Answered (s x : List ℕ) (c i : ℕ) (r : Result Part Refusal) : Type 0 where
   pub same : r ≡ sought s x c i
-  pub fits : (p : Part) → r ≡ Found p → p.first + p.size ≤ length s
+  pub fits : (p : Part) → r ≡ Ok p → p.first + p.size ≤ length s

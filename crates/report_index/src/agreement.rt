@@ -11,13 +11,11 @@ fn rise(index: &[u8], n: usize) -> bool
     requires { 12 * n ≤ length index.now }
     ensures { result ≡ rises (entries_no index.now 0 n) }
 {
-    let mut k = 1;
-    while k < n {
+    for k in 1..n {
         let e = entry_no(index, k);
         if !is_before(index, k - 1, e.chunk, e.instruction) {
             return false;
         }
-        k += 1;
     }
     true
 }
@@ -28,10 +26,7 @@ fn is_entry(index: &[u8], k: usize, e: Entry) -> bool
     ensures { result ≡ same e (entry_no index.now k) }
 {
     let f = entry_no(index, k);
-    (e.chunk == f.chunk)
-        & (e.instruction == f.instruction)
-        & (e.first == f.first)
-        & (e.length == f.length)
+    e == f
 }
 
 // This one is among n entries that rise. It is looked for at a place first: the records of an accepted report stand in the order of the

@@ -16,13 +16,6 @@ pub use entries::ENTRY;
 use entries::{entry_no, put_entry, seek};
 use lookup::{Entry, Part, end_at, entry_at, is_record};
 
-// What a lookup through an index answers: the part of the report, or that the two disagree.
-#[derive(Clone, Copy)]
-pub enum Sought {
-    Found(Part),
-    Disagrees(Refusal),
-}
-
 // Writes the index of a report, and answers its length.
 pub fn write_index(report: &[u8], index: &mut [u8]) -> usize
     requires report_len_bound { length report.now < 4294967296 }
@@ -46,24 +39,29 @@ pub fn write_index(report: &[u8], index: &mut [u8]) -> usize
 }
 
 // The part of the report that is the record of an instruction, its place taken from the index; 20 where they disagree.
-pub fn lookup_indexed(report: &[u8], index: &[u8], chunk: u16, instruction: u16) -> Sought
+pub fn lookup_indexed(
+    report: &[u8],
+    index: &[u8],
+    chunk: u16,
+    instruction: u16,
+) -> Result<Part, Refusal>
     ensures { Answered report.now index.now chunk instruction result }
 {
     if !agree(report, index) {
-        return Sought::Disagrees(nowhere(20, 0));
+        return Err(nowhere(20, 0));
     }
     let n = index.len() / ENTRY;
     let k = seek(index, n, chunk, instruction);
     if k < n {
         let e = entry_no(index, k);
         if (e.chunk == chunk) & (e.instruction == instruction) {
-            return Sought::Found(Part {
+            return Ok(Part {
                 first: e.first,
                 size: e.length,
             });
         }
     }
-    Sought::Found(Part {
+    Ok(Part {
         first: report.len(),
         size: 0,
     })

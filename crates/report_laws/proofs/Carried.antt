@@ -1,5 +1,6 @@
 -- What the declared facts have and every rule keeps, all cells of a run have: over any property of cells, with one of masks, of widths and of
 -- flows beside it.
+use Rattle.std.specs.Prelude.{None}
 use Prim.Native.Nat.{ℕ, zero, suc, ◌-◌, ◌*◌, ◌^◌, ◌≤◌}
 use native.Mathlib.Nat.{pow-le-pow_right}
 use native.Mathlib.Omega.{arith}
@@ -20,9 +21,6 @@ use Rattle.widths.specs.declared.Shape.{Shape}
 use Rattle.widths.specs.Width.{same_width, scalar_width}
 use Rattle.widths.specs.Shape.{shape_mask, declared_width}
 use Rattle.flows.specs.declared.Flow.{Flow}
-use Rattle.flows.specs.declared.Owned.{Owned}
-use Rattle.flows.specs.declared.Owned.TheVariants.{No}
-use Rattle.flows.specs.declared.Origin.TheVariants.{Nowhere}
 use Rattle.flows.specs.Flow.{join_flow, no_flow, negated}
 use Rattle.cells.specs.declared.Cell.{Cell}
 use Rattle.cells.specs.Cell.{made, declared, join_cell, invalidated_cell, bare_cell, narrow_enum, unit_cell}
@@ -87,13 +85,13 @@ module _ (P : Cell → Type 0) (Q : Flow → Type 0) (M : Mask → Type 0) (W : 
     pub flow-of : (c : Cell) → P c → Q c.flow
     pub cell-unit : P unit_cell
     pub cell_join : (x y : Cell) → P x → P y → P (join_cell x y)
-    pub cell-fresh : (m : Mask) (w : Width) (o : Owned) → M m → W w → P (fresh m w o)
+    pub cell-fresh : (m : Mask) (w : Width) (o : Bool) → M m → W w → P (fresh m w o)
     pub cell-private : (m : Mask) (f : Flow) → M m → Q f → P (private_cell m f)
     pub cell-built : (k j size : ℕ) (cs : List Cell) (float handle : ℕ) → M (body k) → W (Body size) → P (construction k (constructed (packed_extent cs float handle) j size))
     pub cell-invalidated : (c : Cell) (l : ℕ) → P c → P (invalidated_cell c l)
     pub cell-bare : (c : Cell) → P c → P (bare_cell c)
     pub cell-narrow : (c : Cell) → P c → P (narrow_enum c)
-    pub cell-nowhere : (c : Cell) → P c → P (with_origin c Nowhere)
+    pub cell-nowhere : (c : Cell) → P c → P (with_origin c None)
     pub cell-negated : (c d : Cell) → P c → P d → P (with_predicate c (negated d.flow.predicate))
     pub cell-tests : (k : Mask) (c d : Cell) → P c → P d → P (with_predicate c (predicate_on k d.flow.origin))
 
@@ -272,7 +270,7 @@ module _ (P : Cell → Type 0) (Q : Flow → Type 0) (M : Mask → Type 0) (W : 
     -- ---- cells
     cell-made : (m : Mask) (n : ℕ) → M m → P (made m n)
     unfolding made fresh
-    cell-made m n p = laws.cell-fresh m (scalar_width m n) No p (width-scalar m n)
+    cell-made m n p = laws.cell-fresh m (scalar_width m n) false p (width-scalar m n)
 
     cell-any : (n k : ℕ) → k ≤ 65535 → P (made (of k) n)
     cell-any n k l = cell-made (of k) n (mask-small k l)

@@ -1,8 +1,9 @@
 -- A cell written is the cell read: four extents, and an origin and a receiver that a report can name.
+use Rattle.std.specs.Prelude.{Option, None, Some}
 use Prim.Native.Nat.{ℕ, ◌+◌, ◌*◌}
 use native.Mathlib.Omega.{arith}
 use mathlib.Core.Path.{◌≡◌, refl, sym, ◌∙◌, ap, ap₂}
-use mathlib.Core.Bool.{true, false}
+use mathlib.Core.Bool.{Bool, true, false}
 use mathlib.Core.List.{List, [], ◌∷◌, ◌++◌}
 use lib.ListN.{length, length-append}
 use borrow.Author.Tests.{ne_eqb}
@@ -14,10 +15,6 @@ use Rattle.extents.specs.declared.BodyExtent.{BodyExtent}
 use Rattle.extents.specs.declared.BodyExtent.TheVariants.{Absent, Range, Unknown}
 use Rattle.extents.specs.declared.Extent.{Extent}
 use Rattle.flows.specs.declared.Flow.{Flow}
-use Rattle.flows.specs.declared.Owned.{Owned}
-use Rattle.flows.specs.declared.Owned.TheVariants.{No, Yes}
-use Rattle.flows.specs.declared.Origin.{Origin}
-use Rattle.flows.specs.declared.Origin.TheVariants.{Nowhere, Local}
 use Rattle.flows.specs.declared.Predicate.{Predicate}
 use Rattle.flows.specs.declared.Predicate.TheVariants.{Nothing as Untested, Tests}
 use Rattle.cells.specs.declared.Cell.{Cell}
@@ -77,10 +74,10 @@ unfolding bodies_bytes
 bodies-long [] = refl
 bodies-long (x ∷ xs) = omega (arith, length-append (body_bytes x.body) (bodies_bytes xs), extent-long x.body, bodies-long xs)
 
-origin-read : (o : Origin) → NamesLocal Sayable o → read_origin (origin_number o) ≡ o
+origin-read : (o : Option ℕ) → NamesLocal Sayable o → read_origin (origin_number o) ≡ o
 unfolding origin_number read_origin NamesLocal
-origin-read Nowhere n = refl
-origin-read (Local l) n = rw (ne_eqb l 65535 n)
+origin-read None n = refl
+origin-read (Some l) n = rw (ne_eqb l 65535 n)
 
 predicate-read : (p : Predicate) → NamesReceiver Sayable p → read_predicate (receiver_number p) (when_byte p) ≡ p
 unfolding receiver_number when_byte read_predicate NamesReceiver
@@ -88,10 +85,10 @@ predicate-read Untested n = refl
 predicate-read (Tests r true) n = rw (ne_eqb r 65535 n)
 predicate-read (Tests r false) n = rw (ne_eqb r 65535 n)
 
-owned-read : (o : Owned) → read_owned (owned_byte o) ≡ o
+owned-read : (o : Bool) → read_owned (owned_byte o) ≡ o
 unfolding owned_byte read_owned
-owned-read No = refl
-owned-read Yes = refl
+owned-read false = refl
+owned-read true = refl
 
 source-long : (f : Flow) → length (source_bytes f) ≡ 6
 unfolding source_bytes le16
@@ -126,7 +123,7 @@ cell-long c e =
       source-long c.flow,
     )
 
-cell_same : (c : Cell) (n : ℕ) (w : Width) (xs : List Extent) (o : Owned) (g : Origin) (p : Predicate) → n ≡ c.mask.bits → w ≡ c.width → xs ≡ c.flow.bodies
+cell_same : (c : Cell) (n : ℕ) (w : Width) (xs : List Extent) (o : Bool) (g : Option ℕ) (p : Predicate) → n ≡ c.mask.bits → w ≡ c.width → xs ≡ c.flow.bodies
     → o ≡ c.flow.owned → g ≡ c.flow.origin → p ≡ c.flow.predicate
     → record { mask = of n; width = w; flow = record { bodies = xs; owned = o; origin = g; predicate = p } } ≡ c
 cell_same c n w xs o g p a b d e f h =

@@ -1,4 +1,5 @@
 -- The rules make cells that name locals of some kind from cells that do.
+use Rattle.std.specs.Prelude.{Option, None, Some}
 use Prim.Native.Nat.{ℕ, suc, ◌<◌}
 use native.Mathlib.Omega.{arith}
 use mathlib.Core.Path.{◌≡◌, refl, sym, ◌∙◌, ap}
@@ -12,9 +13,6 @@ use Rattle.widths.specs.declared.Width.{Width}
 use Rattle.extents.specs.declared.Extent.{Extent}
 use Rattle.extents.specs.Extent.{join_bodies}
 use Rattle.flows.specs.declared.Flow.{Flow}
-use Rattle.flows.specs.declared.Owned.{Owned}
-use Rattle.flows.specs.declared.Origin.{Origin}
-use Rattle.flows.specs.declared.Origin.TheVariants.{Nowhere, Local}
 use Rattle.flows.specs.declared.Predicate.{Predicate}
 use Rattle.flows.specs.declared.Predicate.TheVariants.{Nothing as Untested, Tests}
 use Rattle.flows.specs.Flow.{same_origin, same_predicate, join_flow, no_flow, new_flow, origin_without, predicate_without, invalidated, bare, negated}
@@ -37,13 +35,13 @@ pub local_at : (l : ℕ) → NamesLocal Sayable (origin_at l)
 unfolding origin_at NamesLocal
 local_at l = go (ltb l 65535) refl
   where
-    go : (b : Bool) → ltb l 65535 ≡ b → NamesLocal Sayable (cond b (Local l) Nowhere)
+    go : (b : Bool) → ltb l 65535 ≡ b → NamesLocal Sayable (cond b (Some l) None)
     go true e = λ z. let h : l < 65535 = ltb-true l 65535 e in absurd (omega arith)
     go false e = tt
 
 -- ---- names
 module _ (N : ℕ → Type 0) where
-  flat-local : (b : Bool) (o : Origin) → NamesLocal N o → NamesLocal N (cond b o Nowhere)
+  flat-local : (b : Bool) (o : Option ℕ) → NamesLocal N o → NamesLocal N (cond b o None)
   unfolding NamesLocal
   flat-local true o h = h
   flat-local false o h = tt
@@ -53,12 +51,12 @@ module _ (N : ℕ → Type 0) where
   flat-receiver true p h = h
   flat-receiver false p h = tt
 
-  local-without : (o : Origin) (l : ℕ) → NamesLocal N o → NamesLocal N (origin_without o l)
+  local-without : (o : Option ℕ) (l : ℕ) → NamesLocal N o → NamesLocal N (origin_without o l)
   unfolding NamesLocal
-  local-without Nowhere l h = tt
-  local-without (Local i) l h = go (eqb i l)
+  local-without None l h = tt
+  local-without (Some i) l h = go (eqb i l)
     where
-      go : (b : Bool) → NamesLocal N (cond b Nowhere (Local i))
+      go : (b : Bool) → NamesLocal N (cond b None (Some i))
       go true = tt
       go false = h
 
@@ -76,16 +74,16 @@ module _ (N : ℕ → Type 0) where
   receiver-negated Untested h = tt
   receiver-negated (Tests r w) h = h
 
-  pub receiver-on : (k : Mask) (o : Origin) → NamesLocal N o → NamesReceiver N (predicate_on k o)
+  pub receiver-on : (k : Mask) (o : Option ℕ) → NamesLocal N o → NamesReceiver N (predicate_on k o)
   unfolding predicate_on NamesLocal NamesReceiver
-  receiver-on k Nowhere h = tt
-  receiver-on k (Local l) h = go (eqb k.bits 2048)
+  receiver-on k None h = tt
+  receiver-on k (Some l) h = go (eqb k.bits 2048)
     where
       go : (b : Bool) → NamesReceiver N (cond b (Tests l true) Untested)
       go true = h
       go false = tt
 
-  pub nowhere-local : NamesLocal N Nowhere
+  pub nowhere-local : NamesLocal N None
   unfolding NamesLocal
   nowhere-local = tt
 
@@ -105,7 +103,7 @@ module _ {N : ℕ → Type 0} where
   cell_join x y p q = flow-join x.flow y.flow p q
 
   -- ---- new values
-  pub flow-new : (m : Mask) (w : Width) (o : Owned) → FlowNaming N (new_flow m w o)
+  pub flow-new : (m : Mask) (w : Width) (o : Bool) → FlowNaming N (new_flow m w o)
   unfolding new_flow NamesLocal NamesReceiver
   flow-new m w o = record { four = refl; origin = tt; receiver = tt }
 
@@ -117,7 +115,7 @@ module _ {N : ℕ → Type 0} where
   unfolding made
   cell-made m n = flow-new _ _ _
 
-  pub cell-fresh : (m : Mask) (w : Width) (o : Owned) → CellNaming N (fresh m w o)
+  pub cell-fresh : (m : Mask) (w : Width) (o : Bool) → CellNaming N (fresh m w o)
   unfolding fresh
   cell-fresh m w o = flow-new _ _ _
 
@@ -150,7 +148,7 @@ module _ {N : ℕ → Type 0} where
   unfolding with_predicate
   cell-predicate c p h n = record { four = h.four; origin = h.origin; receiver = n }
 
-  pub cell-origin : (c : Cell) (o : Origin) → CellNaming N c → NamesLocal N o → CellNaming N (with_origin c o)
+  pub cell-origin : (c : Cell) (o : Option ℕ) → CellNaming N c → NamesLocal N o → CellNaming N (with_origin c o)
   unfolding with_origin
   cell-origin c o h n = record { four = h.four; origin = n; receiver = h.receiver }
 

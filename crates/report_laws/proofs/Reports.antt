@@ -6,14 +6,12 @@ use mathlib.Core.Bool.{Bool, true, false, cond}
 use mathlib.Core.Option.{Option, none, some}
 use mathlib.Core.List.{List, [], ◌∷◌}
 use lib.Dec.{leb}
+use Rattle.std.proofs.Common.{Result, Ok, Err}
 use Rattle.answers.specs.declared.Refusal.{Refusal}
 use Rattle.masks.specs.declared.Mask.{Mask}
 use Rattle.flows.specs.declared.Flow.{Flow}
 use Rattle.cells.specs.declared.Cell.{Cell}
 use Rattle.machine_laws.proofs.All.{All, nil, cons, all_append, all-get, Opt}
-use Rattle.definition.specs.declared.Form.{Form}
-use Rattle.definition.specs.declared.Form.TheVariants.{Fine}
-use Rattle.definition.specs.declared.Form.TheVariants.{Refused as Malformed}
 use Rattle.definition.specs.Machine.{Final, Ran, accepted, refused}
 use Rattle.definition.specs.Module.{Module, Chunk, module_of}
 use Rattle.definition.specs.State.{State, Facts}
@@ -108,10 +106,10 @@ admitted-proper m cap limit n none r e =
     reply-by (known_of m (first_facts m)) cap limit n (first_facts m) _ r (reply-naming Sayable m (first_facts m) (first-naming Sayable m)) (first-naming Sayable m) e
 
 -- after 1 to 5
-form-proper : (s : List ℕ) (words limit n : ℕ) (f : Form) (r : Report) → on_form s words limit f ≡ reported r n → ProperReport r
+form-proper : (s : List ℕ) (words limit n : ℕ) (f : Result ℕ Refusal) (r : Report) → on_form s words limit f ≡ reported r n → ProperReport r
 unfolding on_form decided
-form-proper s words limit n (Malformed x) r e = absurd (turned≢reported e)
-form-proper s words limit n (Fine w) r e = admitted-proper (module_of s) (words - w) limit n _ r (if-reported (leb words w) _ _ _ refl e)
+form-proper s words limit n (Err x) r e = absurd (turned≢reported e)
+form-proper s words limit n (Ok w) r e = admitted-proper (module_of s) (words - w) limit n _ r (if-reported (leb words w) _ _ _ refl e)
 
 -- every report that the definition decides on is proper, and so read back from its bytes
 pub decided-proper : (s : List ℕ) (words limit n : ℕ) (r : Report) → decide s words limit ≡ reported r n → ProperReport r

@@ -1,15 +1,11 @@
 -- A report read back from its bytes, field by field, each number at its place.
-use Rattle.std.specs.Prelude.{ℕ, zero, suc, ◌+◌, ◌*◌, ◌-◌, ◌/◌, cond, List, [], ◌∷◌, map, eqb}
+use Rattle.std.specs.Prelude.{ℕ, zero, suc, ◌+◌, ◌*◌, ◌-◌, ◌/◌, cond, List, [], ◌∷◌, map, eqb, Bool, true, false, Option, None, Some}
 use Rattle.le.specs.Le.{at8, at16, at32}
 use Rattle.masks.specs.Mask.{of}
 use Rattle.widths.specs.declared.Width.{Width}
 use Rattle.widths.specs.declared.Width.TheVariants.{Unknown as Wide, Scalar, Body}
 use Rattle.extents.specs.declared.BodyExtent.TheVariants.{Absent, Range, Unknown}
 use Rattle.extents.specs.declared.Extent.{Extent}
-use Rattle.flows.specs.declared.Owned.{Owned}
-use Rattle.flows.specs.declared.Owned.TheVariants.{No, Yes}
-use Rattle.flows.specs.declared.Origin.{Origin}
-use Rattle.flows.specs.declared.Origin.TheVariants.{Nowhere, Local}
 use Rattle.flows.specs.declared.Predicate.{Predicate}
 use Rattle.flows.specs.declared.Predicate.TheVariants.{Nothing as Untested, Tests}
 use Rattle.cells.specs.declared.Cell.{Cell}
@@ -32,12 +28,12 @@ read_extent s q =
       body = cond (eqb (at8 s q) 0) Absent (cond (eqb (at8 s q) 1) (Range (at32 s (q + 1)) (at32 s (q + 5))) Unknown);
     }
 
-unfoldable pub read_owned : ℕ → Owned
-read_owned b = cond (eqb b 0) No Yes
+unfoldable pub read_owned : ℕ → Bool
+read_owned b = cond (eqb b 0) false true
 
 -- 65535 is no local
-unfoldable pub read_origin : ℕ → Origin
-read_origin n = cond (eqb n 65535) Nowhere (Local n)
+unfoldable pub read_origin : ℕ → Option ℕ
+read_origin n = cond (eqb n 65535) None (Some n)
 
 unfoldable pub read_predicate : ℕ → ℕ → Predicate
 read_predicate n b = cond (eqb n 65535) Untested (Tests n (eqb b 1))

@@ -10,7 +10,6 @@ use Rattle.masks.specs.declared.Mask.{Mask}
 use Rattle.widths.specs.declared.Width.{Width}
 use Rattle.extents.specs.declared.Extent.{Extent}
 use Rattle.flows.specs.declared.Flow.{Flow}
-use Rattle.flows.specs.declared.Owned.{Owned}
 use Rattle.flows.specs.Flow.{join_flow, no_flow}
 use Rattle.cells.specs.declared.Cell.{Cell}
 use Rattle.cells.specs.Cell.{made}
@@ -52,7 +51,7 @@ unset-four = (flow-none {N = Sayable}).four
 made-four : (k : Mask) (n : ℕ) → Four (made k n)
 made-four k n = (cell-made {N = Sayable} k n).four
 
-fresh-four : (k : Mask) (w : Width) (o : Owned) → Four (fresh k w o)
+fresh-four : (k : Mask) (w : Width) (o : Bool) → Four (fresh k w o)
 fresh-four k w o = (cell-fresh {N = Sayable} k w o).four
 
 none-four : Four no_cell

@@ -15,7 +15,7 @@ fn row_records(ws: &[u32], row: usize) -> usize
     requires { row < length ws.now }
     ensures { (result ≡ cond (recorded ws.now row) 1 0) × (result ≤ 1) }
 {
-    if is_recorded(ws, row) { 1 } else { 0 }
+    usize::from(is_recorded(ws, row))
 }
 
 // The records of a chunk.
@@ -26,11 +26,9 @@ fn chunk_records(s: &[u8], ws: &[u32], c: usize) -> usize
 {
     let ch = chunk_at(s, ws, c);
     let count = recorded_count(ch);
-    let mut i = 0;
     let mut n = 0;
-    while i < count {
+    for i in 0..count {
         n += row_records(ws, row_at(ch, i));
-        i += 1;
     }
     n
 }
@@ -41,11 +39,9 @@ pub fn count_records(s: &[u8], ws: &[u32], t: Tables) -> usize
     requires t_value { t ≡ tables_of s.now }
     ensures { ((reply : ℕ) → result ≡ length (report_in s.now ws.now reply).records) × (result ≤ 262144) }
 {
-    let mut c = 0;
     let mut n = 0;
-    while c < t.chunks {
+    for c in 0..t.chunks {
         n += chunk_records(s, ws, c);
-        c += 1;
     }
     n
 }

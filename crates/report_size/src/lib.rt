@@ -36,13 +36,11 @@ pub fn count_guards(s: &[u8], ws: &[u32], t: Tables, v: RowVisit, want: Want) ->
     ensures { (result ≡ length (guards (visit_in s.now ws.now v))) × (result ≤ 64) }
 {
     let places = places_asked(v, want);
-    let mut p = places.from;
     let mut n = 0;
-    while p < places.end {
+    for p in places.from..places.end {
         if is_guard(check_place(s, ws, t, v, want, p)) {
             n += 1;
         }
-        p += 1;
     }
     n
 }
@@ -76,11 +74,9 @@ fn chunk_bytes(s: &[u8], ws: &[u32], t: Tables, c: usize) -> usize
 {
     let ch = chunk_at(s, ws, c);
     let count = recorded_count(ch);
-    let mut i = 0;
     let mut n = 0;
-    while i < count {
+    for i in 0..count {
         n += instr_bytes(s, ws, t, c, ch, i);
-        i += 1;
     }
     n
 }
@@ -106,11 +102,9 @@ pub fn measure(s: &[u8], ws: &[u32], t: Tables) -> usize
     requires t_value { t ≡ tables_of s.now }
     ensures { ((reply : ℕ) → result ≡ length (report_bytes (report_in s.now ws.now reply))) × (result < 4294967296) }
 {
-    let mut c = 0;
     let mut n = 7 + 52 * t.slots;
-    while c < t.chunks {
+    for c in 0..t.chunks {
         n += signature_bytes(s, ws, t, c) + chunk_bytes(s, ws, t, c);
-        c += 1;
     }
     n
 }

@@ -15,11 +15,7 @@ use words::mask_at;
 pub fn is_guard(c: Check) -> bool
     ensures { result ≡ is_guard c }
 {
-    match c {
-        Check::Guard(_) => true,
-        Check::Fine => false,
-        Check::Unproven => false,
-    }
+    matches!(c, Check::Guard(_))
 }
 
 // The length of the record's contents.
@@ -72,7 +68,7 @@ pub fn known_branch(ws: &[u32], row: usize, op: u8) -> bool
     let m = top_mask(ws, row);
     is_recorded(ws, row)
         & ((op == IF) | (op == BREAK_IF))
-        & (m.same(Mask::FALSE) | m.same(Mask::TRUE))
+        & ((m == Mask::FALSE) | (m == Mask::TRUE))
 }
 
 pub fn branch_value(ws: &[u32], row: usize) -> u8
@@ -80,7 +76,7 @@ pub fn branch_value(ws: &[u32], row: usize) -> u8
     ensures { result ≡ way_in ws.now row }
 {
     let m = top_mask(ws, row);
-    if m.same(Mask::TRUE) { 1 } else { 0 }
+    u8::from(m == Mask::TRUE)
 }
 
 // The instructions that may be recorded: none of a chunk that isn't reachable.

@@ -45,11 +45,9 @@ fn put_signatures(s: &[u8], ws: &[u32], buf: &mut [u8], at: usize, t: Tables) ->
     requires signatures_in_bounds { at + length (span (signature_at s.now ws.now) 0 t.signatures) ≤ length buf.old }
     ensures { Wrote buf.old at (span (signature_at s.now ws.now) 0 t.signatures) buf.new result }
 {
-    let mut c = 0;
     let mut to = at;
-    while c < t.signatures {
+    for c in 0..t.signatures {
         to = put_signature(s, ws, buf, to, c);
-        c += 1;
     }
     to
 }
@@ -82,11 +80,9 @@ fn put_slots(ws: &[u32], buf: &mut [u8], at: usize, t: Tables) -> usize
     requires slots_in_bounds_2 { at + length (span (slot_from ws.now t.chunks) 0 t.slots) ≤ length buf.old }
     ensures { Wrote buf.old at (span (slot_from ws.now t.chunks) 0 t.slots) buf.new result }
 {
-    let mut k = 0;
     let mut to = at;
-    while k < t.slots {
+    for k in 0..t.slots {
         to = put_slot(ws, buf, to, t, k);
-        k += 1;
     }
     to
 }
@@ -150,11 +146,9 @@ fn put_chunk(s: &[u8], ws: &[u32], buf: &mut [u8], at: usize, t: Tables, c: usiz
 {
     let ch = chunk_at(s, ws, c);
     let n = recorded_count(ch);
-    let mut i = 0;
     let mut to = at;
-    while i < n {
+    for i in 0..n {
         to = put_instr(s, ws, buf, to, t, c, i, tag);
-        i += 1;
     }
     to
 }
@@ -164,11 +158,9 @@ fn put_chunks(s: &[u8], ws: &[u32], buf: &mut [u8], at: usize, t: Tables, tag: u
     requires tag_in_bounds { at + length (chunks_for s.now ws.now tag) ≤ length buf.old }
     ensures { Wrote buf.old at (chunks_for s.now ws.now tag) buf.new result }
 {
-    let mut c = 0;
     let mut to = at;
-    while c < t.chunks {
+    for c in 0..t.chunks {
         to = put_chunk(s, ws, buf, to, t, c, tag);
-        c += 1;
     }
     to
 }

@@ -31,11 +31,9 @@ pub fn put_cells(ws: &[u32], buf: &mut [u8], at: usize, word: usize, n: usize) -
     requires n_in_bounds_2 { at + 49 * n ≤ length buf.old }
     ensures { WroteN buf.old at (49 * n) (cells_bytes (cells_at ws.now word n)) buf.new result }
 {
-    let mut k = 0;
     let mut to = at;
-    while k < n {
+    for k in 0..n {
         to = put_stored(ws, buf, to, word + 16 * k);
-        k += 1;
     }
     to
 }
@@ -47,12 +45,10 @@ fn put_outputs(buf: &mut [u8], at: usize, v: RowVisit, made: Made) -> usize
 {
     let ins = v.ins;
     let given = ins.given as usize;
-    let mut k = 0;
     let mut to = at;
-    while k < given {
+    for k in 0..given {
         to = put16(buf, to, ((v.start + k) % 65536) as u16);
         to = put_cell(buf, to, output(made, k));
-        k += 1;
     }
     to
 }
@@ -97,12 +93,10 @@ fn put_guards(
 {
     let places = places_asked(v, want);
     let n = places.end - places.from;
-    let mut k = 0;
     let mut to = at;
-    while k < n {
+    for k in 0..n {
         let p = place_in_turn(places, k);
         to = put_guard(buf, to, p, check_place(s, ws, t, v, want, p));
-        k += 1;
     }
     to
 }

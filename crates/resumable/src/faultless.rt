@@ -35,12 +35,10 @@ fn chunk_fine(s: &[u8], ws: &[u32], t: Tables, c: usize) -> bool
 {
     let ch = chunk_at(s, ws, c);
     let count = recorded_count(ch);
-    let mut i = 0;
-    while i < count {
+    for i in 0..count {
         if !is_fine(s, ws, t, c, ch, i) {
             return false;
         }
-        i += 1;
     }
     true
 }
@@ -51,12 +49,10 @@ pub fn is_faultless(s: &[u8], ws: &[u32], t: Tables) -> bool
     requires t_value { t ≡ tables_of s.now }
     ensures { Decides result (Faultless s.now ws.now) }
 {
-    let mut c = 0;
-    while c < t.chunks {
+    for c in 0..t.chunks {
         if !chunk_fine(s, ws, t, c) {
             return false;
         }
-        c += 1;
     }
     true
 }

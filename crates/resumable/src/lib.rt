@@ -27,12 +27,10 @@ fn rows_low(s: &[u8], ws: &[u32], c: usize) -> bool
 {
     let ch = chunk_at(s, ws, c);
     let count = recorded_count(ch);
-    let mut i = 0;
-    while i < count {
+    for i in 0..count {
         if ch.stack + 1 < row_height(ws, row_at(ch, i)) as usize {
             return false;
         }
-        i += 1;
     }
     true
 }
@@ -43,12 +41,10 @@ fn low_before(s: &[u8], ws: &[u32], n: usize) -> bool
     requires n_in_bounds { n ≤ length (module_of s.now).chunks }
     ensures { Decides result (LowBefore s.now ws.now n) }
 {
-    let mut c = 0;
-    while c < n {
+    for c in 0..n {
         if !rows_low(s, ws, c) {
             return false;
         }
-        c += 1;
     }
     true
 }

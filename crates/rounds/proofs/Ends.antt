@@ -18,23 +18,22 @@ use Rattle.form_laws.specs.Good.{chunk_no, words_of}
 use Rattle.visit.specs.Held.{live_in}
 use Rattle.run_state.specs.declared.Run.{Run}
 use Rattle.run_state.specs.Course.{states_in, past_in, machine_in, final_in, room_in, analysis_in, Low, LowBefore, Between, Ended, FactsOnly}
-use Rattle.rounds.specs.declared.entering.Settled.{Settled}
-use Rattle.rounds.specs.declared.entering.Settled.TheVariants.{Due, Done, Stop}
 use Rattle.rounds.specs.entering.Entering.{where_in, Goes, Opened}
 use Rattle.rounds.specs.entering.Reach.{NextReachable}
 use Rattle.rounds.proofs.entering.Reach.{past_more, enters_none}
 use Rattle.rounds.specs.entering.Began.{Began}
-use Rattle.rounds.specs.inspecting.Fault.{Inspected}
+use Rattle.rounds.specs.inspecting.Fault.{fault_told, Inspected}
 use Rattle.rounds.proofs.entering.Rounds.{enters-due, low-reached}
 use Rattle.rounds.specs.Settling.{Onward}
 use Rattle.rounds.specs.Ends.{EndsAs, GoesOn}
+use Rattle.std.specs.Prelude.{Option, Some, None, Result, Ok, Err}
 
 -- ---- the end of a pass
-pub ends-done : (s ws : List ℕ) (r : Run) → Ended s ws → r.validating ≡ true → EndsAs s ws ws r Done
+pub ends-done : (s ws : List ℕ) (r : Run) → Ended s ws → r.validating ≡ true → EndsAs s ws ws r (Ok None)
 unfolding EndsAs where_in Goes ending finish final_in live_in
 ends-done s ws r e t = (rw t, e, refl)
 
-pub ends-opened : (s ws u v : List ℕ) (r : Run) (x : Settled) (b : Bool) → r.validating ≡ false → FactsOnly s ws u → b ≡ moved (live_in s ws r.changed)
+pub ends-opened : (s ws u v : List ℕ) (r : Run) (x : Result (Option Run) Refusal) (b : Bool) → r.validating ≡ false → FactsOnly s ws u → b ≡ moved (live_in s ws r.changed)
     → live_in s u false ≡ opened (closed (live_in s ws r.changed)) → Opened s u v (not b) r.steps x → EndsAs s ws v r x
 unfolding EndsAs Opened ending end_round
 ends-opened s ws u v r x b t f m l (w, g, n) =
@@ -54,7 +53,7 @@ module _ (s ws : List ℕ) (r : Run) (x : Between s ws r) (n : ℕ) (y : NextRea
   unfolding onward machine_in
   goes-from = rw (add-one r.chunk, past_more s ws r.chunk, x.reachable)
 
-  pub goes-due : (v : List ℕ) (q : Run) → n < length (module_of s).chunks → Began s ws v n r.validating r.changed r.steps q → GoesOn s ws v r (Due q)
+  pub goes-due : (v : List ℕ) (q : Run) → n < length (module_of s).chunks → Began s ws v n r.validating r.changed r.steps q → GoesOn s ws v r (Ok (Some q))
   unfolding GoesOn where_in Goes
   goes-due v q h b = (
     ap due b.machine
@@ -64,7 +63,7 @@ module _ (s ws : List ℕ) (r : Run) (x : Between s ws r) (n : ℕ) (y : NextRea
     b.long,
   )
 
-  pub goes_end : (v : List ℕ) (o : Settled) → length (module_of s).chunks ≤ n → EndsAs s ws v r o → GoesOn s ws v r o
+  pub goes_end : (v : List ℕ) (o : Result (Option Run) Refusal) → length (module_of s).chunks ≤ n → EndsAs s ws v r o → GoesOn s ws v r o
   unfolding GoesOn EndsAs
   goes_end v o h (w, g, l) = (
     w
@@ -81,19 +80,19 @@ module _ (s ws : List ℕ) (r : Run) (x : Between s ws r) (n : ℕ) (y : NextRea
   goes-ended h = let e : n ≡ length (module_of s).chunks = omega (arith, y.high) in record { prepared = x.prepared; low = rw e at goes-low }
 
 -- ---- the queue is empty
-pub settles-rounds : (s ws v : List ℕ) (r : Run) (x : Settled) → r.validating ≡ false → GoesOn s ws v r x → Onward s ws v r x
+pub settles-rounds : (s ws v : List ℕ) (r : Run) (x : Result (Option Run) Refusal) → r.validating ≡ false → GoesOn s ws v r x → Onward s ws v r x
 unfolding Onward GoesOn settle
 settles-rounds s ws v r x t (w, g, l) = (w ∙ rw t, g, l)
 
-module _ (s ws : List ℕ) (r : Run) (t : r.validating ≡ true) (f : Refusal) (i : Inspected s ws r.chunk r.steps f) where
-  pub settles-validated : (v : List ℕ) (x : Settled) → f.number ≡ 0 → GoesOn s ws v r x → Onward s ws v r x
-  unfolding Onward GoesOn settle machine_in
+module _ (s ws : List ℕ) (r : Run) (t : r.validating ≡ true) (y : Result (Unit {0}) Refusal) (i : Inspected s ws r.chunk r.steps y) where
+  pub settles-validated : (v : List ℕ) (x : Result (Option Run) Refusal) → y ≡ Ok tt → GoesOn s ws v r x → Onward s ws v r x
+  unfolding Onward GoesOn settle machine_in fault_told
   settles-validated v x e (w, g, l) =
-      let z : after_chunk (chunk_no (module_of s) r.chunk) (states_in s ws r.chunk) ≡ none = i.fault ∙ rw (eq-eqb f.number 0 e) in
+      let z : after_chunk (chunk_no (module_of s) r.chunk) (states_in s ws r.chunk) ≡ none = i.fault ∙ ap fault_told e in
       (w ∙ rw (t, z), g, l)
 
-  pub settles-stop : (f.number ≡ 0 → ⊥) → Onward s ws ws r (Stop f)
-  unfolding Onward where_in Goes settle onward machine_in
-  settles-stop d =
-      let z : after_chunk (chunk_no (module_of s) r.chunk) (states_in s ws r.chunk) ≡ some (f.number, f.instruction) = i.fault ∙ rw (ne_eqb f.number 0 d) in
-      (rw (t, z, i.place), i.same-steps, refl)
+  pub settles-stop : (f : Refusal) → y ≡ Err f → Onward s ws ws r (Err f)
+  unfolding Onward where_in Goes settle onward machine_in fault_told
+  settles-stop f e =
+      let z : after_chunk (chunk_no (module_of s) r.chunk) (states_in s ws r.chunk) ≡ some (f.number, f.instruction) = i.fault ∙ ap fault_told e in
+      (rw (t, z, i.place f e), i.same-steps f e, refl)

@@ -17,14 +17,6 @@ use ring::{Queue, push};
 use run_state::Run;
 use words::{copy16, store};
 
-// Where a run stands between two takings: an entry is due, or all is done.
-#[derive(Clone, Copy)]
-pub enum Settled {
-    Due(Run),
-    Done,
-    Stop(Refusal),
-}
-
 // The first reachable chunk from this one on, or the number of chunks.
 pub fn next_reachable(s: &[u8], ws: &[u32], t: Tables, from: usize) -> usize
     requires indexed { Indexed s.now ws.now }
@@ -32,13 +24,11 @@ pub fn next_reachable(s: &[u8], ws: &[u32], t: Tables, from: usize) -> usize
     requires from_le_chunks { from ≤ t.chunks }
     ensures { NextReachable s.now from result }
 {
-    let mut c = from;
-    while c < t.chunks {
+    for c in from..t.chunks {
         let ch = chunk_at(s, ws, c);
         if ch.reachable {
             return c;
         }
-        c += 1;
     }
     t.chunks
 }
@@ -47,10 +37,8 @@ fn clear_rows(ws: &mut [u32], ch: Chunk)
     requires { RowsThere ws.old ch }
     ensures { Cleared ch ch.count ws.old ws.new }
 {
-    let mut i = 0;
-    while i < ch.count {
+    for i in 0..ch.count {
         set_row(ws, row_at(ch, i), 0);
-        i += 1;
     }
 }
 
@@ -72,10 +60,8 @@ fn first_locals(ws: &mut [u32], ch: Chunk)
     requires { LocalsThere ws.old ch }
     ensures { Filled ch ch.locals ws.old ws.new }
 {
-    let mut i = 0;
-    while i < ch.locals {
+    for i in 0..ch.locals {
         first_local(ws, ch, i);
-        i += 1;
     }
 }
 
@@ -111,15 +97,21 @@ pub fn begin(
     }
 }
 
-// A round, or validation, begins with the first reachable chunk.
-pub fn open_round(s: &[u8], ws: &mut [u32], t: Tables, validating: bool, steps: u32) -> Settled
+// A round, or validation, begins with the first reachable chunk, and an entry of it is due; with none, all is done.
+pub fn open_round(
+    s: &[u8],
+    ws: &mut [u32],
+    t: Tables,
+    validating: bool,
+    steps: u32,
+) -> Result<Option<Run>, Refusal>
     requires prepared { Prepared s.now ws.old }
     requires t_value { t ≡ tables_of s.now }
     ensures { Opened s.now ws.old ws.new validating steps result }
 {
     let first = next_reachable(s, ws, t, 0);
     if first < t.chunks {
-        return Settled::Due(begin(s, ws, t, first, validating, false, steps));
+        return Ok(Some(begin(s, ws, t, first, validating, false, steps)));
     }
-    Settled::Done
+    Ok(None)
 }

@@ -9,19 +9,18 @@ ghost use Rattle.rounds.specs.inspecting.Fault.{receiver_fault, op_fault, RowRea
 
 use answers::{Refusal, refuse};
 use cells::Cell;
-use extents::Size;
 use index::{chunk_at, instr_of, row_height};
 use layout::{place_at, row_at};
 use masks::Mask;
 use ops::{IS_ENUM, IS_STRUCT};
 use words::load;
 
-fn below_discriminant(size: Size) -> bool
+fn below_discriminant(size: Option<u32>) -> bool
     ensures { result ≡ under_eight size }
 {
     match size {
-        Size::Nothing => true,
-        Size::Bytes(n) => n < 8,
+        None => true,
+        Some(n) => n < 8,
     }
 }
 
@@ -31,7 +30,7 @@ fn receiver_fault(op: u8, c: Cell) -> u8
 {
     let m = c.mask;
     if op == IS_STRUCT {
-        return if m.has(Mask::STRUCT) & !m.same(Mask::STRUCT) {
+        return if m.has(Mask::STRUCT) & (m != Mask::STRUCT) {
             17
         } else {
             0
@@ -57,22 +56,20 @@ fn inspection_fault(ws: &[u32], row: usize, op: u8) -> u8
     receiver_fault(op, load(ws, place_at(row, height - 2)))
 }
 
-// The first such instruction of a chunk that was validated; number 0 if there is none.
-pub fn inspected(s: &[u8], ws: &[u32], c: usize, steps: u32) -> Refusal
+// The refusal for the first such instruction of a chunk that was validated, if there is one.
+pub fn inspected(s: &[u8], ws: &[u32], c: usize, steps: u32) -> Result<(), Refusal>
     requires indexed { Indexed s.now ws.now }
     requires c_in_bounds { c < length (module_of s.now).chunks }
     requires low { Low s.now ws.now c }
     ensures { Inspected s.now ws.now c steps result }
 {
     let ch = chunk_at(s, ws, c);
-    let mut i = 0;
-    while i < ch.count {
+    for i in 0..ch.count {
         let ins = instr_of(s, ws, c, ch, i);
         let n = inspection_fault(ws, row_at(ch, i), ins.op);
         if n != 0 {
-            return refuse(n, c, i, steps);
+            return Err(refuse(n, c, i, steps));
         }
-        i += 1;
     }
-    refuse(0, c, 65535, steps)
+    Ok(())
 }

@@ -11,7 +11,8 @@ ghost use Rattle.run_state.specs.Course.{Between, Ended};
 ghost use Rattle.rounds.specs.Settling.{Onward};
 ghost use Rattle.rounds.specs.Ends.{EndsAs, GoesOn};
 
-pub use entering::{Settled, open_round};
+use answers::Refusal;
+pub use entering::open_round;
 use entering::{begin, next_reachable};
 use fact_join::merge_writes;
 use inspecting::inspected;
@@ -19,32 +20,32 @@ use layout::Tables;
 use run_state::Run;
 
 // The end of a round: another, where the facts moved, else validation. The end of validation: done.
-fn end_round(s: &[u8], ws: &mut [u32], t: Tables, r: Run) -> Settled
+fn end_round(s: &[u8], ws: &mut [u32], t: Tables, r: Run) -> Result<Option<Run>, Refusal>
     requires ended { Ended s.now ws.old }
     requires t_value { t ≡ tables_of s.now }
     ensures { EndsAs s.now ws.old ws.new r result }
 {
     if r.validating {
-        return Settled::Done;
+        return Ok(None);
     }
     let moved = merge_writes(s, ws, t, r.changed);
     open_round(s, ws, t, !moved, r.steps)
 }
 
-fn onward(s: &[u8], ws: &mut [u32], t: Tables, r: Run) -> Settled
+fn onward(s: &[u8], ws: &mut [u32], t: Tables, r: Run) -> Result<Option<Run>, Refusal>
     requires between { Between s.now ws.old r }
     requires t_value { t ≡ tables_of s.now }
     ensures { GoesOn s.now ws.old ws.new r result }
 {
     let next = next_reachable(s, ws, t, r.chunk + 1);
     if next < t.chunks {
-        return Settled::Due(begin(s, ws, t, next, r.validating, r.changed, r.steps));
+        return Ok(Some(begin(s, ws, t, next, r.validating, r.changed, r.steps)));
     }
     end_round(s, ws, t, r)
 }
 
-// The queue is empty.
-pub fn settle(s: &[u8], ws: &mut [u32], t: Tables, r: Run) -> Settled
+// The queue is empty: the run with which an entry is due again, none where all is done, or the refusal.
+pub fn settle(s: &[u8], ws: &mut [u32], t: Tables, r: Run) -> Result<Option<Run>, Refusal>
     requires between { Between s.now ws.old r }
     requires count_value { r.queue.count ≡ 0 }
     requires t_value { t ≡ tables_of s.now }
@@ -53,9 +54,6 @@ pub fn settle(s: &[u8], ws: &mut [u32], t: Tables, r: Run) -> Settled
     if !r.validating {
         return onward(s, ws, t, r);
     }
-    let refusal = inspected(s, ws, r.chunk, r.steps);
-    if refusal.number != 0 {
-        return Settled::Stop(refusal);
-    }
+    inspected(s, ws, r.chunk, r.steps)?;
     onward(s, ws, t, r)
 }

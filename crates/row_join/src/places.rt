@@ -7,7 +7,6 @@ ghost use Rattle.row_join.specs.places.Arrive.{met_cell, kept_cell, untouched_at
 
 use cells::{Cell, JoinedCell};
 use definition::{Made, output};
-use flows::Origin;
 use layout::NO_LOCAL;
 use words::{copy16, is_plain, load, same16, store};
 
@@ -35,12 +34,12 @@ pub fn join_one(ws: &mut [u32], to: usize, fresh: bool, new: Cell) -> bool
     j.changed
 }
 
-fn is_from(o: Origin, local: u16) -> bool
+fn is_from(o: Option<u16>, local: u16) -> bool
     ensures { result ≡ is_from o local }
 {
     match o {
-        Origin::Nowhere => false,
-        Origin::Local(i) => i == local,
+        None => false,
+        Some(i) => i == local,
     }
 }
 
@@ -123,11 +122,9 @@ pub fn keep_all(
     requires { PlacesApart ws.old from to n }
     ensures { Arrived fresh to n (map (kept_cell forget narrow) (cells_at ws.old from n)) ws.old ws.new result }
 {
-    let mut p = 0;
     let mut changed = false;
-    while p < n {
+    for p in 0..n {
         changed = changed | keep_one(ws, from + 16 * p, to + 16 * p, fresh, forget, narrow);
-        p += 1;
     }
     changed
 }
@@ -137,11 +134,9 @@ pub fn put_outputs(ws: &mut [u32], to: usize, n: usize, fresh: bool, made: Made)
     requires { to + 16 * n ≤ length ws.old }
     ensures { Arrived fresh to n (output_list made n) ws.old ws.new result }
 {
-    let mut k = 0;
     let mut changed = false;
-    while k < n {
+    for k in 0..n {
         changed = changed | join_one(ws, to + 16 * k, fresh, output(made, k));
-        k += 1;
     }
     changed
 }

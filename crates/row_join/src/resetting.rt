@@ -35,11 +35,9 @@ fn reset_locals(
     requires { to + 16 * n ≤ length ws.old }
     ensures { Arrived fresh to n (row (reset_at streams reply) 0 n) ws.old ws.new result }
 {
-    let mut k = 0;
     let mut changed = false;
-    while k < n {
+    for k in 0..n {
         changed = changed | join_one(ws, to + 16 * k, fresh, reset_cell(reply, streams, k));
-        k += 1;
     }
     changed
 }

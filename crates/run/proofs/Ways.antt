@@ -22,36 +22,31 @@ use Rattle.layout.specs.Indexed.{tables_of}
 use Rattle.visit.specs.Held.{live_in}
 use Rattle.run_state.specs.declared.Run.{Run}
 use Rattle.run_state.specs.Course.{machine_in, final_in, room_in, known_as, analysis_in, Between}
-use Rattle.rounds.specs.declared.entering.Settled.{Settled}
-use Rattle.rounds.specs.declared.entering.Settled.TheVariants.{Due, Done, Stop}
 use Rattle.rounds.specs.entering.Entering.{where_in, Goes, Opened, pass_from}
 use Rattle.rounds.specs.Settling.{Onward}
-use Rattle.step.specs.declared.Step.TheVariants.{Go}
-use Rattle.step.specs.declared.Step.TheVariants.{Stop as Halted}
 use Rattle.step.specs.Took.{Took}
 use Rattle.step.proofs.Steps.{due-there}
 use Rattle.machine_laws.specs.Takings.{after-takings, takings, says}
 use Rattle.machine_laws.proofs.Takings.{check-is}
 use Rattle.run.specs.declared.RunTo.{RunTo}
-use Rattle.run.specs.declared.RunTo.TheVariants.{Over, Halt}
-use Rattle.run.specs.declared.RunTo.TheVariants.{Due as StillDue}
-use Rattle.run.specs.declared.RunEnd.TheVariants.{Done as Finished, Stop as Refused}
 use Rattle.run.proofs.Turns.{next-stops, next-goes, settled-due, settled-none, after_turn, takings-turn, after-done, after_stop, takings-done, takings-stop, due-entry}
 use Rattle.run.specs.Running.{SettledAs, Turned, stands_in, StandsAt, RanTo, ran_in, EndedBy, RanAs}
+use Rattle.std.specs.Prelude.{Ok, Err, Option, Some, None, Result}
+use Rattle.run.specs.declared.RunTo.TheVariants.{Due, Over}
 
 -- ---- settled
-pub settled_here : (s ws : List ℕ) (r : Run) → Between s ws r → 0 < r.queue.count → SettledAs s ws ws r (Due r)
+pub settled_here : (s ws : List ℕ) (r : Run) → Between s ws r → 0 < r.queue.count → SettledAs s ws ws r (Ok (Some r))
 unfolding SettledAs where_in Goes
 settled_here s ws r b h = (sym (settled-due s ws r h), (b, h, refl), refl)
 
-pub settled_on : (s ws u : List ℕ) (r : Run) (x : Settled) → r.queue.count ≡ 0 → Onward s ws u r x → SettledAs s ws u r x
+pub settled_on : (s ws u : List ℕ) (r : Run) (x : Result (Option Run) Refusal) → r.queue.count ≡ 0 → Onward s ws u r x → SettledAs s ws u r x
 unfolding SettledAs Onward
 settled_on s ws u r x h (e, g, l) = (e ∙ sym (settled-none s ws r h), g, l)
 
 -- ---- turned
 module _ (s ws : List ℕ) (r : Run) (between : Between s ws r) (some : 0 < r.queue.count) where
-  pub turned-stop : (u : List ℕ) (f : Refusal) → Took s ws u r (popped_of ws (words_of (module_of s)) r.queue) (due_of ws (words_of (module_of s)) r.queue) (Halted f)
-      → length u ≡ length ws → Turned s ws u r (Stop f)
+  pub turned-stop : (u : List ℕ) (f : Refusal) → Took s ws u r (popped_of ws (words_of (module_of s)) r.queue) (due_of ws (words_of (module_of s)) r.queue) (Err f)
+      → length u ≡ length ws → Turned s ws u r (Err f)
   unfolding Turned Took where_in Goes
   turned-stop u f (t, e) l = (
     (λ i. stop (record { number = f.number; chunk = (e i).chunk; instruction = (e i).instruction })) ∙ sym (next-stops s ws r between.queued.ready some f.number t),
@@ -62,8 +57,8 @@ module _ (s ws : List ℕ) (r : Run) (between : Between s ws r) (some : 0 < r.qu
       one : (n : ℕ) → n + 1 ≡ suc n
       one n = omega arith
 
-  pub turned_on : (u w : List ℕ) (x : Run) (y : Settled)
-      → Took s ws u r (popped_of ws (words_of (module_of s)) r.queue) (due_of ws (words_of (module_of s)) r.queue) (Go x)
+  pub turned_on : (u w : List ℕ) (x : Run) (y : Result (Option Run) Refusal)
+      → Took s ws u r (popped_of ws (words_of (module_of s)) r.queue) (due_of ws (words_of (module_of s)) r.queue) (Ok x)
       → SettledAs s u w x y → Turned s ws w r y
   unfolding Turned Took SettledAs
   turned_on u w x y (t, b, mode, same, steps, past, long) (e, g, l) = (
@@ -92,15 +87,15 @@ pub on-first : (s ws : List ℕ) (r : Run) (limit : ℕ) → Between s ws r → 
 on-first s ws r limit b d l = record { between = b; some = d; within = l; long = refl; rest = refl; counted = refl }
 
 module _ (s begin ws : List ℕ) (first : Run) (limit : ℕ) (r : Run) (on : OnRun s begin ws first limit r) where
-  abbrev whole : RunTo → List ℕ → Type 0
+  abbrev whole : Result RunTo Refusal → List ℕ → Type 0
   whole x u = RanTo s begin u (limit - first.steps) first.steps (due (machine_in s begin first)) x
 
   module _ (l : r.steps < limit) (u : List ℕ) where
-    turn_is : (x : Settled) → Turned s ws u r x → where_in s u x ≡ next (analysis_in s begin) (machine_in s ws r)
+    turn_is : (x : Result (Option Run) Refusal) → Turned s ws u r x → where_in s u x ≡ next (analysis_in s begin) (machine_in s ws r)
     unfolding Turned
     turn_is x (e, g, k) = e ∙ ap (λ (n : ℕ). next (analysis_of (known_as s) (n - words_of (module_of s))) (machine_in s ws r)) on.long
 
-    rest-after : (x : Settled) → Turned s ws u r x
+    rest-after : (x : Result (Option Run) Refusal) → Turned s ws u r x
         → after-takings (analysis_in s begin) (limit - suc r.steps) (where_in s u x)
         ≡ after-takings (analysis_in s begin) (limit - first.steps) (due (machine_in s begin first))
     rest-after x t =
@@ -108,7 +103,7 @@ module _ (s begin ws : List ℕ) (first : Run) (limit : ℕ) (r : Run) (on : OnR
         ∙ sym (after_turn (analysis_in s begin) limit r.steps (machine_in s ws r) l)
         ∙ on.rest
 
-    rest-counted : (x : Settled) → Turned s ws u r x
+    rest-counted : (x : Result (Option Run) Refusal) → Turned s ws u r x
         → suc r.steps + takings (analysis_in s begin) (limit - suc r.steps) (where_in s u x)
         ≡ first.steps + takings (analysis_in s begin) (limit - first.steps) (due (machine_in s begin first))
     rest-counted x t =
@@ -116,29 +111,29 @@ module _ (s begin ws : List ℕ) (first : Run) (limit : ℕ) (r : Run) (on : OnR
         ∙ sym (takings-turn (analysis_in s begin) limit r.steps (machine_in s ws r) l)
         ∙ on.counted
 
-    pub ran-stop : (f : Refusal) → Turned s ws u r (Stop f) → whole (Halt f) u
+    pub ran-stop : (f : Refusal) → Turned s ws u r (Err f) → whole (Err f) u
     unfolding Turned where_in Goes stands_in StandsAt
     ran-stop f (e, g, k) =
         let c = takings-stop (analysis_in s begin) (limit - suc r.steps) (record { number = f.number; chunk = f.chunk; instruction = f.instruction }) in
-        let w = rest-counted (Stop f) (e, g, k) in
+        let w = rest-counted (Err f) (e, g, k) in
         record {
-          stands = sym (after_stop (analysis_in s begin) (limit - suc r.steps) _) ∙ rest-after (Stop f) (e, g, k);
+          stands = sym (after_stop (analysis_in s begin) (limit - suc r.steps) _) ∙ rest-after (Err f) (e, g, k);
           at = g ∙ omega (arith, c, w);
           long = k ∙ on.long;
         }
 
-    pub ran_over : (n : ℕ) → n ≡ r.steps + 1 → Turned s ws u r Done → whole (Over n) u
+    pub ran_over : (n : ℕ) → n ≡ r.steps + 1 → Turned s ws u r (Ok None) → whole (Ok (Over n)) u
     unfolding Turned where_in Goes stands_in StandsAt
     ran_over n h (e, g, k) =
         let c = takings-done (analysis_in s begin) (limit - suc r.steps) (final_in s u) in
-        let w = rest-counted Done (e, g, k) in
+        let w = rest-counted (Ok None) (e, g, k) in
         record {
-          stands = sym (after-done (analysis_in s begin) (limit - suc r.steps) _) ∙ rest-after Done (e, g, k);
+          stands = sym (after-done (analysis_in s begin) (limit - suc r.steps) _) ∙ rest-after (Ok None) (e, g, k);
           at = (g, omega (arith, h, c, w));
           long = k ∙ on.long;
         }
 
-    pub ran-due : (x : Run) → Turned s ws u r (Due x) → OnRun s begin u first limit x
+    pub ran-due : (x : Run) → Turned s ws u r (Ok (Some x)) → OnRun s begin u first limit x
     unfolding Turned where_in Goes
     ran-due x (e, g, k) =
         let z = g.2 in
@@ -147,16 +142,16 @@ module _ (s begin ws : List ℕ) (first : Run) (limit : ℕ) (r : Run) (on : OnR
           some = g.1;
           within = omega arith;
           long = k ∙ on.long;
-          rest = ap (λ (n : ℕ). after-takings (analysis_in s begin) (limit - n) (due (machine_in s u x))) z ∙ rest-after (Due x) (e, g, k);
-          counted = ap (λ (n : ℕ). n + takings (analysis_in s begin) (limit - n) (due (machine_in s u x))) z ∙ rest-counted (Due x) (e, g, k);
+          rest = ap (λ (n : ℕ). after-takings (analysis_in s begin) (limit - n) (due (machine_in s u x))) z ∙ rest-after (Ok (Some x)) (e, g, k);
+          counted = ap (λ (n : ℕ). n + takings (analysis_in s begin) (limit - n) (due (machine_in s u x))) z ∙ rest-counted (Ok (Some x)) (e, g, k);
         }
 
-    pub ran-less : (x : Run) → Turned s ws u r (Due x) → limit - x.steps < limit - r.steps
+    pub ran-less : (x : Run) → Turned s ws u r (Ok (Some x)) → limit - x.steps < limit - r.steps
     unfolding Turned Goes
     ran-less x (e, g, k) = let z = g.2 in omega arith
 
   -- no step is left
-  pub ran_out : limit ≤ r.steps → whole (StillDue r) ws
+  pub ran_out : limit ≤ r.steps → whole (Ok (Due r)) ws
   unfolding stands_in StandsAt after-takings takings
   ran_out h =
       let z : limit - r.steps ≡ 0 = omega (arith, h) in
@@ -167,45 +162,45 @@ module _ (s begin ws : List ℕ) (first : Run) (limit : ℕ) (r : Run) (on : OnR
       }
 
 -- what stands there
-pub still-due : (s ws u : List ℕ) (left steps : ℕ) (from : Where Chunk Live Facts State) (r : Run) → RanTo s ws u left steps from (StillDue r)
+pub still-due : (s ws u : List ℕ) (left steps : ℕ) (from : Where Chunk Live Facts State) (r : Run) → RanTo s ws u left steps from (Ok (Due r))
     → Between s u r × (0 < r.queue.count)
 unfolding StandsAt
 still-due s ws u left steps from r t = (t.at.0, t.at.1)
 
 -- ---- from the start
 module _ (s ws u : List ℕ) (limit : ℕ) (live : live_in s ws false ≡ opened (first_facts (module_of s))) where
-  begun-is : (x : Settled) → Opened s ws u false 0 x → where_in s u x ≡ begun (analysis_in s ws) (first_facts (module_of s))
+  begun-is : (x : Result (Option Run) Refusal) → Opened s ws u false 0 x → where_in s u x ≡ begun (analysis_in s ws) (first_facts (module_of s))
   unfolding Opened begun known_of
   begun-is x (e, g, k) = e ∙ ap (pass_from (analysis_in s ws) false) live
 
-  abbrev first : RunTo → List ℕ → Type 0
+  abbrev first : Result RunTo Refusal → List ℕ → Type 0
   first x v = RanTo s ws v limit 0 (begun (analysis_in s ws) (first_facts (module_of s))) x
 
-  pub first-stop : (f : Refusal) → Opened s ws u false 0 (Stop f) → first (Halt f) u
+  pub first-stop : (f : Refusal) → Opened s ws u false 0 (Err f) → first (Err f) u
   unfolding Opened where_in Goes stands_in StandsAt
   first-stop f (e, g, k) =
-      let b = begun-is (Stop f) (e, g, k) in
+      let b = begun-is (Err f) (e, g, k) in
       record {
         stands = sym (after_stop (analysis_in s ws) limit _) ∙ ap (after-takings (analysis_in s ws) limit) b;
         at = g ∙ sym (takings-stop (analysis_in s ws) limit _) ∙ ap (takings (analysis_in s ws) limit) b ∙ sym (zero-add _);
         long = k;
       }
 
-  pub first-over : Opened s ws u false 0 Done → first (Over 0) u
+  pub first-over : Opened s ws u false 0 (Ok None) → first (Ok (Over 0)) u
   unfolding Opened where_in Goes stands_in StandsAt
   first-over (e, g, k) =
-      let b = begun-is Done (e, g, k) in
+      let b = begun-is (Ok None) (e, g, k) in
       record {
         stands = sym (after-done (analysis_in s ws) limit _) ∙ ap (after-takings (analysis_in s ws) limit) b;
         at = (g, sym (takings-done (analysis_in s ws) limit _) ∙ ap (takings (analysis_in s ws) limit) b ∙ sym (zero-add _));
         long = k;
       }
 
-  pub first-due : (r : Run) → Opened s ws u false 0 (Due r) → (v : List ℕ) (x : RunTo) → RanTo s u v (limit - r.steps) r.steps (due (machine_in s u r)) x → first x v
+  pub first-due : (r : Run) → Opened s ws u false 0 (Ok (Some r)) → (v : List ℕ) (x : Result RunTo Refusal) → RanTo s u v (limit - r.steps) r.steps (due (machine_in s u r)) x → first x v
   unfolding Opened where_in Goes
   first-due r (e, g, k) v x t =
       let z : limit - 0 ≡ limit = omega arith in
-      let b = begun-is (Due r) (e, g, k) in
+      let b = begun-is (Ok (Some r)) (e, g, k) in
       let steps : r.steps ≡ 0 = g.2 in
       let room : room_in s u ≡ room_in s ws = ap (λ (n : ℕ). n - words_of (module_of s)) k in
       let left : limit - r.steps ≡ limit = ap (λ (n : ℕ). limit - n) steps ∙ z in
@@ -217,7 +212,7 @@ module _ (s ws u : List ℕ) (limit : ℕ) (live : live_in s ws false ≡ opened
         long = t.long ∙ k;
       }
 
-  pub due-ready : (r : Run) → Opened s ws u false 0 (Due r) → Between s u r × ((0 < r.queue.count) × (r.steps ≤ limit))
+  pub due-ready : (r : Run) → Opened s ws u false 0 (Ok (Some r)) → Between s u r × ((0 < r.queue.count) × (r.steps ≤ limit))
   unfolding Opened Goes
   due-ready r (e, g, k) = (g.0, (g.1, omega (arith, g.2)))
 
@@ -250,16 +245,16 @@ module _ (s ws u : List ℕ) (limit : ℕ) where
       (λ i. says (analysis_in s ws) (b i) (a i))
       ∙ sym (check-is (analysis_in s ws) limit (first_facts (module_of s)))
 
-  pub run-stop : (f : Refusal) → RanTo s ws u limit 0 begins (Halt f) → RanAs s ws u limit (Refused f)
+  pub run-stop : (f : Refusal) → RanTo s ws u limit 0 begins (Err f) → RanAs s ws u limit (Err f)
   unfolding RanAs ran_in EndedBy stands_in StandsAt says
   run-stop f t = (said _ f.steps t.stands (t.at ∙ zero-add _), refl)
 
-  pub run-over : (n : ℕ) → RanTo s ws u limit 0 begins (Over n) → RanAs s ws u limit (Finished n)
+  pub run-over : (n : ℕ) → RanTo s ws u limit 0 begins (Ok (Over n)) → RanAs s ws u limit (Ok n)
   unfolding RanAs ran_in EndedBy stands_in StandsAt says
   run-over n t = (said _ n t.stands (t.at.1 ∙ zero-add _), t.at.0)
 
-  pub run-spent : (r : Run) → RanTo s ws u limit 0 begins (StillDue r) → (f : Refusal)
-      → f ≡ refusal 7 r.chunk (due_of u (words_of (module_of s)) r.queue) r.steps → RanAs s ws u limit (Refused f)
+  pub run-spent : (r : Run) → RanTo s ws u limit 0 begins (Ok (Due r)) → (f : Refusal)
+      → f ≡ refusal 7 r.chunk (due_of u (words_of (module_of s)) r.queue) r.steps → RanAs s ws u limit (Err f)
   unfolding RanAs ran_in EndedBy stands_in StandsAt says machine_in
   run-spent r t f e =
       let room : room_in s u ≡ room_in s ws = ap (λ (n : ℕ). n - words_of (module_of s)) t.long in (
@@ -268,6 +263,6 @@ module _ (s ws u : List ℕ) (limit : ℕ) where
         refl,
       )
 
-pub took-between : (s ws u : List ℕ) (r : Run) (q : Queue) (i : ℕ) (x : Run) → Took s ws u r q i (Go x) → Between s u x
+pub took-between : (s ws u : List ℕ) (r : Run) (q : Queue) (i : ℕ) (x : Run) → Took s ws u r q i (Ok x) → Between s u x
 unfolding Took
 took-between s ws u r q i x t = t.1

@@ -17,54 +17,44 @@ ghost use Rattle.run.specs.Running.{SettledAs, Turned, RanTo, RanAs};
 use answers::{Refusal, refuse};
 use layout::Tables;
 use ring::peek;
-use rounds::{Settled, open_round, settle};
+use rounds::{open_round, settle};
 use run_state::Run;
-use step::{Step, take};
+use step::take;
 
-// Where a run stands at a limit: an entry is due, or it is over after so many steps, or refused.
+// Where a run stands at a limit: an entry is due, or it is over after so many steps.
 #[derive(Clone, Copy)]
 pub enum RunTo {
     Due(Run),
     Over(u32),
-    Halt(Refusal),
-}
-
-// The steps of a run that was accepted, or the refusal.
-#[derive(Clone, Copy)]
-pub enum RunEnd {
-    Done(u32),
-    Stop(Refusal),
 }
 
 // The run goes on where an entry is due, else it settles.
-fn settled(s: &[u8], ws: &mut [u32], t: Tables, r: Run) -> Settled
+fn settled(s: &[u8], ws: &mut [u32], t: Tables, r: Run) -> Result<Option<Run>, Refusal>
     requires between { Between s.now ws.old r }
     requires t_value { t ≡ tables_of s.now }
     ensures { SettledAs s.now ws.old ws.new r result }
 {
     let queue = r.queue;
     if 0 < queue.count {
-        return Settled::Due(r);
+        return Ok(Some(r));
     }
     settle(s, ws, t, r)
 }
 
 // One taking, and on to where an entry is due again.
-fn turn(s: &[u8], ws: &mut [u32], t: Tables, r: Run) -> Settled
+fn turn(s: &[u8], ws: &mut [u32], t: Tables, r: Run) -> Result<Option<Run>, Refusal>
     requires between { Between s.now ws.old r }
     requires count_nonzero { 0 < r.queue.count }
     requires t_value { t ≡ tables_of s.now }
     requires steps_bound { r.steps + 1 < 2 ^ 32 }
     ensures { Turned s.now ws.old ws.new r result }
 {
-    match take(s, ws, t, r) {
-        Step::Stop(refusal) => Settled::Stop(refusal),
-        Step::Go(next) => settled(s, ws, t, next),
-    }
+    let next = take(s, ws, t, r)?;
+    settled(s, ws, t, next)
 }
 
 // From an entry due up to the limit.
-pub fn run_to(s: &[u8], ws: &mut [u32], t: Tables, first: Run, limit: u32) -> RunTo
+pub fn run_to(s: &[u8], ws: &mut [u32], t: Tables, first: Run, limit: u32) -> Result<RunTo, Refusal>
     requires between { Between s.now ws.old first }
     requires count_nonzero { 0 < first.queue.count }
     requires t_value { t ≡ tables_of s.now }
@@ -75,23 +65,20 @@ pub fn run_to(s: &[u8], ws: &mut [u32], t: Tables, first: Run, limit: u32) -> Ru
 {
     let mut r = first;
     while r.steps < limit {
-        match turn(s, ws, t, r) {
-            Settled::Stop(refusal) => {
-                return RunTo::Halt(refusal);
+        match turn(s, ws, t, r)? {
+            None => {
+                return Ok(RunTo::Over(r.steps + 1));
             }
-            Settled::Done => {
-                return RunTo::Over(r.steps + 1);
-            }
-            Settled::Due(next) => {
+            Some(next) => {
                 r = next;
             }
         }
     }
-    RunTo::Due(r)
+    Ok(RunTo::Due(r))
 }
 
 // From the facts at the start up to the limit.
-pub fn run_first(s: &[u8], ws: &mut [u32], t: Tables, limit: u32) -> RunTo
+pub fn run_first(s: &[u8], ws: &mut [u32], t: Tables, limit: u32) -> Result<RunTo, Refusal>
     requires prepared { Prepared s.now ws.old }
     requires false_value { live_in s.now ws.old false ≡ opened (first_facts (module_of s.now)) }
     requires t_value { t ≡ tables_of s.now }
@@ -99,10 +86,9 @@ pub fn run_first(s: &[u8], ws: &mut [u32], t: Tables, limit: u32) -> RunTo
         (begun (analysis_in s.now ws.old) (first_facts (module_of s.now)))
         result }
 {
-    match open_round(s, ws, t, false, 0) {
-        Settled::Stop(refusal) => RunTo::Halt(refusal),
-        Settled::Done => RunTo::Over(0),
-        Settled::Due(r) => run_to(s, ws, t, r, limit),
+    match open_round(s, ws, t, false, 0)? {
+        None => Ok(RunTo::Over(0)),
+        Some(r) => run_to(s, ws, t, r, limit),
     }
 }
 
@@ -117,16 +103,15 @@ pub fn spent(s: &[u8], ws: &[u32], t: Tables, r: Run) -> Refusal
     refuse(7, r.chunk, at, r.steps)
 }
 
-// The whole run, from the facts at the start.
-pub fn run(s: &[u8], ws: &mut [u32], t: Tables, limit: u32) -> RunEnd
+// The whole run, from the facts at the start: its steps, or the refusal.
+pub fn run(s: &[u8], ws: &mut [u32], t: Tables, limit: u32) -> Result<u32, Refusal>
     requires prepared { Prepared s.now ws.old }
     requires false_value { live_in s.now ws.old false ≡ opened (first_facts (module_of s.now)) }
     requires t_value { t ≡ tables_of s.now }
     ensures { RanAs s.now ws.old ws.new limit result }
 {
-    match run_first(s, ws, t, limit) {
-        RunTo::Halt(refusal) => RunEnd::Stop(refusal),
-        RunTo::Over(steps) => RunEnd::Done(steps),
-        RunTo::Due(r) => RunEnd::Stop(spent(s, ws, t, r)),
+    match run_first(s, ws, t, limit)? {
+        RunTo::Over(steps) => Ok(steps),
+        RunTo::Due(r) => Err(spent(s, ws, t, r)),
     }
 }

@@ -19,12 +19,10 @@ fn any_placed(s: &[u8], ws: &[u32], t: Tables, r: Slots) -> bool
     requires end_le_slots { r.end ≤ t.slots }
     ensures { result ≡ any_body (module_of s.now) (list_of r) }
 {
-    let mut k = r.first;
-    while k < r.end {
+    for k in r.first..r.end {
         if slot_placed(s, ws, t, k) {
             return true;
         }
-        k += 1;
     }
     false
 }

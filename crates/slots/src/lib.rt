@@ -17,7 +17,7 @@ ghost use Rattle.visit.specs.Slots.{list_of};
 use cells::Cell;
 pub use crossing::data_fault;
 use definition::Check;
-use flows::{Flow, Owned};
+use flows::Flow;
 use index::{shared_kind, shared_mask, slot_placed};
 use layout::{Tables, slot_at};
 use masks::Mask;
@@ -62,11 +62,9 @@ fn kinds_in(s: &[u8], ws: &[u32], t: Tables, r: Slots) -> Mask
     requires end_le_slots { r.end ≤ t.slots }
     ensures { result ≡ kinds_in (module_of s.now) (facts_in s.now ws.now) NONE (list_of r) }
 {
-    let mut k = r.first;
     let mut m = Mask::NONE;
-    while k < r.end {
+    for k in r.first..r.end {
         m = m.union(slot_mask(s, ws, t, k));
-        k += 1;
     }
     m
 }
@@ -79,11 +77,9 @@ fn width_in(s: &[u8], ws: &[u32], t: Tables, r: Slots) -> Width
     ensures { result ≡ width_in (module_of s.now) (facts_in s.now ws.now)
         (data_width (module_of s.now) (facts_in s.now ws.now) r.first) (list_of r) }
 {
-    let mut k = r.first;
     let mut w = slot_width(s, ws, t, r.first);
-    while k < r.end {
+    for k in r.first..r.end {
         w = w.join(slot_width(s, ws, t, k));
-        k += 1;
     }
     w
 }
@@ -94,12 +90,10 @@ fn flow_in(s: &[u8], ws: &[u32], t: Tables, r: Slots) -> Flow
     requires end_le_slots { r.end ≤ t.slots }
     ensures { result ≡ flow_in (facts_in s.now ws.now) no_flow (list_of r) }
 {
-    let mut k = r.first;
     let mut f = Flow::none();
-    while k < r.end {
+    for k in r.first..r.end {
         let c = load(ws, slot_at(t, k));
         f = f.with(c.flow);
-        k += 1;
     }
     f
 }
@@ -115,7 +109,7 @@ pub fn read_slots(s: &[u8], ws: &[u32], t: Tables, r: Slots) -> Cell
     if slot_placed(s, ws, t, r.first) {
         return read_private(m, flow_in(s, ws, t, r));
     }
-    fresh(m, width_in(s, ws, t, r), Owned::No)
+    fresh(m, width_in(s, ws, t, r), false)
 }
 
 // What a slot takes.
@@ -141,11 +135,9 @@ pub fn write_check(s: &[u8], ws: &[u32], t: Tables, r: Slots, value: Mask) -> Ch
     requires end_le_slots { r.end ≤ t.slots }
     ensures { result ≡ write_check (module_of s.now) (facts_in s.now ws.now) value Fine (list_of r) }
 {
-    let mut k = r.first;
     let mut c = Check::Fine;
-    while k < r.end {
+    for k in r.first..r.end {
         c = meet(c, require(value, slot_allows(s, ws, t, k)));
-        k += 1;
     }
     c
 }

@@ -1,4 +1,5 @@
 -- What is settled before the rounds: the facts, the reply and which chunks suspend, or a refusal; the last two again where a run is taken up.
+use Rattle.std.specs.Prelude.{Option as Maybe, None, Some}
 use Prim.Native.Nat.{ℕ, zero, suc, ◌+◌, ◌*◌, ◌%◌, ◌<◌, ◌≤◌}
 use native.Mathlib.Omega.{arith}
 use mathlib.Core.Path.{◌≡◌, refl, sym, ap, ap₂, ◌∙◌}
@@ -12,8 +13,6 @@ use lib.Seq.{take-length}
 use Rattle.masks.specs.Mask.{of}
 use Rattle.masks.specs.Names.{NONE}
 use Rattle.answers.specs.declared.Refusal.{Refusal}
-use Rattle.extents.specs.declared.Size.{Size}
-use Rattle.extents.specs.declared.Size.TheVariants.{Nothing, Bytes}
 use Rattle.flows.specs.Flow.{no_flow, maximum_of}
 use Rattle.cells.specs.declared.Cell.{Cell}
 use Rattle.cells.specs.Cell.{declared}
@@ -38,13 +37,11 @@ use Rattle.visit.specs.Held.{facts_in, writes_in, live_in, known_in}
 use Rattle.run_state.specs.Course.{Prepared, known_as}
 use Rattle.run_state.proofs.Rows.{row_same}
 use Rattle.start.specs.admitting.Admitting.{found}
-use Rattle.start.proofs.admitting.Chunks.{found_none}
 use Rattle.start.specs.suspending.Suspending.{suspends_in, NumbersOnly}
-use Rattle.start.specs.declared.Started.{Started}
-use Rattle.start.specs.declared.Started.TheVariants.{Ready, Refused}
 use Rattle.start.specs.Starting.{SitesSuspend, Reknown, StartedAs, RebuiltAs}
 use Rattle.start.specs.Inputs.{ChunksDeclared}
 use Rattle.start.specs.Settled.{ended}
+use Rattle.std.specs.Prelude.{Result, Ok, Err}
 
 -- ---- lists built element by element
 row-map : {A : Type 0} (f : ℕ → A) (g : Chunk → A) (cs : List Chunk) (i k : ℕ) → k ≤ length cs → ((n : ℕ) → n < k → f (i + n) ≡ g (get_or cs n no_chunk)) → row f i k ≡ map g (take k cs)
@@ -204,18 +201,18 @@ decided-known : (m : Module) (cap limit : ℕ) → admitted m m.chunks ≡ none
 unfolding decided on_admitted known known_of reply_maximum
 decided-known m cap limit a = rw a
 
-rebuilt : (s ws v : List ℕ) (full : Bool) (size : Size) → full ≡ overfull (module_of s) → size ≡ maximum_of (reply_cell (module_of s) (first_facts (module_of s))).flow
+rebuilt : (s ws v : List ℕ) (full : Bool) (size : Maybe ℕ) → full ≡ overfull (module_of s) → size ≡ maximum_of (reply_cell (module_of s) (first_facts (module_of s))).flow
     → admitted (module_of s) (module_of s).chunks ≡ none → Prepared s v → Reknown s ws v → RebuiltAs s ws v (ended full size)
 unfolding RebuiltAs ended on_reply bounded admitted_run known_of
-rebuilt s ws v full Nothing f e a p k =
-    λ cap limit. decided-known (module_of s) cap limit a ∙ ap (λ (k : Size). on_reply (known_as s) cap limit (first_facts (module_of s)) (bounded k)) (sym e)
-rebuilt s ws v true (Bytes n) f e a p k =
-    λ cap limit. decided-known (module_of s) cap limit a ∙ ap (λ (k : Size). on_reply (known_as s) cap limit (first_facts (module_of s)) (bounded k)) (sym e) ∙ rw (← f)
-rebuilt s ws v false (Bytes n) f e a p k = (
+rebuilt s ws v full None f e a p k =
+    λ cap limit. decided-known (module_of s) cap limit a ∙ ap (λ (k : Maybe ℕ). on_reply (known_as s) cap limit (first_facts (module_of s)) (bounded k)) (sym e)
+rebuilt s ws v true (Some n) f e a p k =
+    λ cap limit. decided-known (module_of s) cap limit a ∙ ap (λ (k : Maybe ℕ). on_reply (known_as s) cap limit (first_facts (module_of s)) (bounded k)) (sym e) ∙ rw (← f)
+rebuilt s ws v false (Some n) f e a p k = (
   p,
   k,
   λ cap limit.
-      decided-known (module_of s) cap limit a ∙ ap (λ (k : Size). on_reply (known_as s) cap limit (first_facts (module_of s)) (bounded k)) (sym e) ∙ rw (← f),
+      decided-known (module_of s) cap limit a ∙ ap (λ (k : Maybe ℕ). on_reply (known_as s) cap limit (first_facts (module_of s)) (bounded k)) (sym e) ∙ rw (← f),
 )
 
 -- ---- what the code asks on the way, and what it ends with
@@ -231,7 +228,7 @@ module _ (s ws : List ℕ) (x : Indexed s ws) where
   pub put-indexed : (v2 : List ℕ) (reply : Cell) → (v2 ≡ put_cell ws 0 reply) × Storable reply → Indexed s v2
   put-indexed v2 reply (e, f) = rw e (indexed-put s ws x 0 reply (reply-free (module_of s)))
 
-pub all-rebuilt : (s ws v2 v3 : List ℕ) (t : Tables) (reply : Cell) (size : Size) (r : Started) → Indexed s ws → SitesSuspend s ws → words_of (module_of s) < length ws
+pub all-rebuilt : (s ws v2 v3 : List ℕ) (t : Tables) (reply : Cell) (size : Maybe ℕ) (r : Result ℕ Refusal) → Indexed s ws → SitesSuspend s ws → words_of (module_of s) < length ws
     → t ≡ tables_of s → admitted (module_of s) (module_of s).chunks ≡ none
     → reply ≡ reply_cell (module_of s) (first_facts (module_of s)) → (v2 ≡ put_cell ws 0 reply) × Storable reply
     → NumbersOnly s v2 v3 × (suspends_in s v3 ≡ suspend_loop (length (module_of s).chunks) (module_of s).chunks (suspends_in s v2))
@@ -248,29 +245,26 @@ pub sites-suspend : (s ws v1 : List ℕ) → Fresh s ws → ChunksDeclared s ws 
 unfolding SitesSuspend
 sites-suspend s ws v1 fresh d n h = suspends-steady s ws v1 n d.steady h ∙ fresh.suspends n h
 
-pub all_settled : (s ws v1 v3 : List ℕ) (r : Started) → Indexed s ws → Fresh s ws → ChunksDeclared s ws v1 (module_of s).signatures → RebuiltAs s v1 v3 r
+pub all_settled : (s ws v1 v3 : List ℕ) (r : Result ℕ Refusal) → Indexed s ws → Fresh s ws → ChunksDeclared s ws v1 (module_of s).signatures → RebuiltAs s v1 v3 r
     → StartedAs s ws v3 r
 unfolding StartedAs RebuiltAs
-all_settled s ws v1 v3 (Ready n) x fresh d (p, k, c) = (p, live-holds s ws v1 v3 x fresh d k, long s ws v1 v3 x fresh d k, c)
-all_settled s ws v1 v3 (Refused f) x fresh d c = c
+all_settled s ws v1 v3 (Ok n) x fresh d (p, k, c) = (p, live-holds s ws v1 v3 x fresh d k, long s ws v1 v3 x fresh d k, c)
+all_settled s ws v1 v3 (Err f) x fresh d c = c
 
 -- not admitted
-module _ (s ws v : List ℕ) (f : Refusal) (e : f ≡ found (admitted (module_of s) (module_of s).chunks)) (d : f.number ≡ 0 → ⊥) where
+module _ (s ws v : List ℕ) (f : Refusal) (e : Err f ≡ found (admitted (module_of s) (module_of s).chunks)) where
   turns : (cap limit : ℕ) → decided (module_of s) cap limit ≡ turned f
   unfolding decided found on_admitted
   turns cap limit = go (admitted (module_of s) (module_of s).chunks) e
     where
-      go : (o : Option (ℕ × ℕ)) → f ≡ found o → on_admitted (module_of s) cap limit o ≡ turned f
-      go none q = absurd (d (ap (λ (r : Refusal). r.number) q))
-      go (some y) q = ap turned (sym q)
+      go : (o : Option (ℕ × ℕ)) → Err f ≡ found o → on_admitted (module_of s) cap limit o ≡ turned f
+      go none q = cc
+      go (some y) q = cc
 
-  pub turned-back : StartedAs s ws v (Refused f)
+  pub turned-back : StartedAs s ws v (Err f)
   unfolding StartedAs
   turned-back = turns
 
-  pub turned-again : RebuiltAs s ws v (Refused f)
+  pub turned-again : RebuiltAs s ws v (Err f)
   unfolding RebuiltAs
   turned-again = turns
-
-pub none_found : (m : Module) (f : Refusal) → f ≡ found (admitted m m.chunks) → f.number ≡ 0 → admitted m m.chunks ≡ none
-none_found m f e z = found_none m m.chunks (ap (λ (r : Refusal). r.number) (sym e) ∙ z)

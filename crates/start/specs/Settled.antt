@@ -1,12 +1,9 @@
 -- What the start comes to: 11, 12 or the run.
-use Rattle.std.specs.Prelude.{Bool, cond}
+use Rattle.std.specs.Prelude.{Bool, cond, ℕ, Option, None, Some, Result, Ok, Err}
 use Rattle.answers.specs.Answers.{nowhere}
-use Rattle.extents.specs.declared.Size.{Size}
-use Rattle.extents.specs.declared.Size.TheVariants.{Nothing, Bytes}
-use Rattle.start.specs.declared.Started.{Started}
-use Rattle.start.specs.declared.Started.TheVariants.{Ready, Refused}
+use Rattle.answers.specs.declared.Refusal.{Refusal}
 
 -- ---- the end: 11, 12 or the run
-unfoldable pub ended : Bool → Size → Started
-ended full Nothing = Refused (nowhere 11 0)
-ended full (Bytes n) = cond full (Refused (nowhere 12 0)) (Ready n)
+unfoldable pub ended : Bool → Option ℕ → Result ℕ Refusal
+ended full None = Err (nowhere 11 0)
+ended full (Some n) = cond full (Err (nowhere 12 0)) (Ok n)

@@ -6,7 +6,7 @@ ghost use Rattle.form_laws.specs.Good.{Good, chunk_no, no_shape, words_of};
 ghost use Rattle.layout.specs.Indexed.{Indexed, tables_of};
 ghost use Rattle.start.specs.admitting.Admitting.{NumbersOf, Least, fits_tag, found};
 
-use answers::{Refusal, nowhere, refuse};
+use answers::{Refusal, refuse};
 use description::{chunk_head_at, tags_at};
 use index::{chunk_at, param_of};
 use layout::{Chunk, Tables};
@@ -39,8 +39,7 @@ fn agrees(s: &[u8], c: usize, ch: Chunk, k: usize) -> bool
 {
     let tag = u8_at(s, tags_at(ch.at) + k);
     let shape = param_of(s, c, ch, k);
-    let mask = shape.mask();
-    (tag == 0) | mask.same(tag_mask(tag))
+    (tag == 0) | (shape.mask() == tag_mask(tag))
 }
 
 fn all_agree(s: &[u8], c: usize, ch: Chunk, n: usize) -> bool
@@ -50,12 +49,10 @@ fn all_agree(s: &[u8], c: usize, ch: Chunk, n: usize) -> bool
     requires least { Least (length (chunk_no (module_of s.now) c).tags) (length (chunk_no (module_of s.now) c).params) n }
     ensures { result ≡ agree (chunk_no (module_of s.now) c).tags (chunk_no (module_of s.now) c).params }
 {
-    let mut k = 0;
-    while k < n {
+    for k in 0..n {
         if !agrees(s, c, ch, k) {
             return false;
         }
-        k += 1;
     }
     true
 }
@@ -98,19 +95,17 @@ fn fault(s: &[u8], t: Tables, c: usize, ch: Chunk) -> u8
     0
 }
 
-// The first chunk that is not admitted; number 0 if all are.
-pub fn admitted(s: &[u8], ws: &[u32], t: Tables) -> Refusal
+// The refusal for the first chunk that is not admitted, if one is not.
+pub fn admitted(s: &[u8], ws: &[u32], t: Tables) -> Result<(), Refusal>
     requires indexed { Indexed s.now ws.now }
     requires t_value { t ≡ tables_of s.now }
     ensures { result ≡ found (admitted (module_of s.now) (module_of s.now).chunks) }
 {
-    let mut c = 0;
-    while c < t.chunks {
+    for c in 0..t.chunks {
         let n = fault(s, t, c, chunk_at(s, ws, c));
         if n != 0 {
-            return refuse(n, c, 65535, 0);
+            return Err(refuse(n, c, 65535, 0));
         }
-        c += 1;
     }
-    nowhere(0, 0)
+    Ok(())
 }

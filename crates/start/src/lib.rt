@@ -19,18 +19,10 @@ use admitting::admitted;
 use answers::{Refusal, nowhere};
 use cells::Cell;
 use description::{has_site, site_reply};
-use extents::Size;
 use index::{chunk_at, field_of, param_of, result_of};
 use layout::{Chunk, Tables, input_at, result_at};
 use suspending::suspend_all;
 use words::store;
-
-// The largest body of a reply, or the refusal.
-#[derive(Clone, Copy)]
-pub enum Started {
-    Ready(u32),
-    Refused(Refusal),
-}
 
 // ---- the declared facts
 fn declare_inputs(s: &[u8], ws: &mut [u32], c: usize, ch: Chunk, owns: bool)
@@ -40,11 +32,9 @@ fn declare_inputs(s: &[u8], ws: &mut [u32], c: usize, ch: Chunk, owns: bool)
     requires owns_value { owns ≡ (module_of s.now).owns }
     ensures { InputsIn s.now ws.old ws.new c (length (chunk_no (module_of s.now) c).params) }
 {
-    let mut k = 0;
-    while k < ch.params {
+    for k in 0..ch.params {
         let shape = param_of(s, c, ch, k);
         store(ws, input_at(ch, k), Cell::declared(shape, owns));
-        k += 1;
     }
 }
 
@@ -66,11 +56,9 @@ fn declare(s: &[u8], ws: &mut [u32], t: Tables)
     requires t_value { t ≡ tables_of s.now }
     ensures { ChunksDeclared s.now ws.old ws.new (module_of s.now).signatures }
 {
-    let mut c = 0;
-    while c < t.signatures {
+    for c in 0..t.signatures {
         let ch = chunk_at(s, ws, c);
         declare_chunk(s, ws, c, ch, t.owns);
-        c += 1;
     }
 }
 
@@ -108,11 +96,9 @@ fn with_chunk(s: &[u8], ws: &[u32], c: usize, ch: Chunk, owns: bool, so: Cell) -
     requires owns_value { owns ≡ (module_of s.now).owns }
     ensures { result ≡ reply_in (module_of s.now) so (chunk_no (module_of s.now) c).code }
 {
-    let mut i = 0;
     let mut reply = so;
-    while i < ch.count {
+    for i in 0..ch.count {
         reply = with_site(s, field_of(s, ws, c, ch, i), owns, reply);
-        i += 1;
     }
     reply
 }
@@ -123,33 +109,31 @@ fn reply_of(s: &[u8], ws: &[u32], t: Tables) -> Cell
     requires t_value { t ≡ tables_of s.now }
     ensures { result ≡ reply_cell (module_of s.now) (first_facts (module_of s.now)) }
 {
-    let mut c = 0;
     let mut reply = first_reply(s, ws, t);
-    while c < t.chunks {
+    for c in 0..t.chunks {
         reply = with_chunk(s, ws, c, chunk_at(s, ws, c), t.owns, reply);
-        c += 1;
     }
     reply
 }
 
 // ---- all of it
-// 11 for a reply without bound, 12 for an initializer past the slots.
-fn bounded(t: Tables, size: Size) -> Started
+// The largest body of a reply, or the refusal: 11 for a reply without bound, 12 for an initializer past the slots.
+fn bounded(t: Tables, size: Option<u32>) -> Result<u32, Refusal>
     requires { t.shared + t.inits < 2 ^ 32 }
     ensures { result ≡ ended (ltb 0 t.inits && ltb t.slots (t.shared + t.inits)) size }
 {
     match size {
-        Size::Nothing => Started::Refused(nowhere(11, 0)),
-        Size::Bytes(n) => if (0 < t.inits) & (t.slots < t.shared + t.inits) {
-            Started::Refused(nowhere(12, 0))
+        None => Err(nowhere(11, 0)),
+        Some(n) => if (0 < t.inits) & (t.slots < t.shared + t.inits) {
+            Err(nowhere(12, 0))
         } else {
-            Started::Ready(n)
+            Ok(n)
         },
     }
 }
 
 // What a run knows from its start on, worked out from the description: the reply, and which chunks suspend. The facts of a run stay.
-fn rebuild(s: &[u8], ws: &mut [u32], t: Tables) -> Started
+fn rebuild(s: &[u8], ws: &mut [u32], t: Tables) -> Result<u32, Refusal>
     requires indexed { Indexed s.now ws.old }
     requires sites_suspend { SitesSuspend s.now ws.old }
     requires s_in_bounds { words_of (module_of s.now) < length ws.old }
@@ -164,7 +148,7 @@ fn rebuild(s: &[u8], ws: &mut [u32], t: Tables) -> Started
     bounded(t, f.maximum())
 }
 
-fn prepare(s: &[u8], ws: &mut [u32], t: Tables) -> Started
+fn prepare(s: &[u8], ws: &mut [u32], t: Tables) -> Result<u32, Refusal>
     requires indexed { Indexed s.now ws.old }
     requires fresh { Fresh s.now ws.old }
     requires s_in_bounds { words_of (module_of s.now) < length ws.old }
@@ -176,32 +160,26 @@ fn prepare(s: &[u8], ws: &mut [u32], t: Tables) -> Started
     rebuild(s, ws, t)
 }
 
-// The facts before the first round, or why there is none.
-pub fn start(s: &[u8], ws: &mut [u32], t: Tables) -> Started
+// The facts before the first round, or why there is none; the largest body of a reply.
+pub fn start(s: &[u8], ws: &mut [u32], t: Tables) -> Result<u32, Refusal>
     requires indexed { Indexed s.now ws.old }
     requires fresh { Fresh s.now ws.old }
     requires s_in_bounds { words_of (module_of s.now) < length ws.old }
     requires t_value { t ≡ tables_of s.now }
     ensures { StartedAs s.now ws.old ws.new result }
 {
-    let refusal = admitted(s, ws, t);
-    if refusal.number != 0 {
-        return Started::Refused(refusal);
-    }
+    admitted(s, ws, t)?; // before anything is written
     prepare(s, ws, t)
 }
 
-// What a run that is taken up again knows, or why there can be none: 9 to 12. Its facts stay as they are.
-pub fn restart(s: &[u8], ws: &mut [u32], t: Tables) -> Started
+// What a run that is taken up again knows, or why there can be none: 9 to 12. Its facts stay as they are; the largest body of a reply.
+pub fn restart(s: &[u8], ws: &mut [u32], t: Tables) -> Result<u32, Refusal>
     requires indexed { Indexed s.now ws.old }
     requires sites_suspend { SitesSuspend s.now ws.old }
     requires s_in_bounds { words_of (module_of s.now) < length ws.old }
     requires t_value { t ≡ tables_of s.now }
     ensures { RebuiltAs s.now ws.old ws.new result }
 {
-    let found = admitted(s, ws, t);
-    if found.number != 0 {
-        return Started::Refused(found);
-    }
+    admitted(s, ws, t)?; // what a run has stored doesn't show it
     rebuild(s, ws, t)
 }

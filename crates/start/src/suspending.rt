@@ -32,12 +32,10 @@ fn calls_suspending(s: &[u8], ws: &[u32], c: usize, ch: Chunk) -> bool
     requires ch_value { ch ≡ chunk_at s.now ws.now c }
     ensures { result ≡ calls_one (suspends_in s.now ws.now) (chunk_no (module_of s.now) c).code }
 {
-    let mut i = 0;
-    while i < ch.count {
+    for i in 0..ch.count {
         if calls(s, ws, instr_of(s, ws, c, ch, i)) {
             return true;
         }
-        i += 1;
     }
     false
 }
@@ -69,11 +67,9 @@ fn suspend_more(s: &[u8], ws: &mut [u32], t: Tables) -> bool
         (suspend_more (module_of s.now).chunks (suspends_in s.now ws.old))
         result }
 {
-    let mut c = 0;
     let mut changed = false;
-    while c < t.chunks {
+    for c in 0..t.chunks {
         changed = suspend_one(s, ws, c) | changed;
-        c += 1;
     }
     changed
 }
@@ -86,12 +82,9 @@ pub fn suspend_all(s: &[u8], ws: &mut [u32], t: Tables)
         × (suspends_in s.now ws.new
         ≡ suspend_loop (length (module_of s.now).chunks) (module_of s.now).chunks (suspends_in s.now ws.old)) }
 {
-    let mut left = t.chunks;
-    while 0 < left {
-        if suspend_more(s, ws, t) {
-            left -= 1;
-        } else {
-            left = 0;
+    for look in 0..t.chunks {
+        if !suspend_more(s, ws, t) {
+            return;
         }
     }
 }

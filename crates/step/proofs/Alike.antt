@@ -1,4 +1,5 @@
 -- What passes along the ways of a visit, read off its row, is what leaves the definition's visit.
+use Rattle.std.specs.Prelude.{None}
 use Prim.Native.Nat.{ℕ, zero, suc, ◌+◌}
 use native.Mathlib.Omega.{arith}
 use mathlib.Core.Path.{◌≡◌, refl, sym, ap, ap₂, ◌∙◌}
@@ -10,7 +11,6 @@ use lib.Dec.{ltb}
 use borrow.Author.Tests.{ltb-true, ltb-false}
 use Rattle.masks.specs.Mask.{has}
 use Rattle.masks.specs.Names.{ENUM}
-use Rattle.flows.specs.declared.Origin.TheVariants.{Nowhere}
 use Rattle.flows.specs.Flow.{new_flow}
 use Rattle.cells.specs.declared.Cell.{Cell}
 use Rattle.cells.specs.Cell.{made}
@@ -43,11 +43,11 @@ module _ (x : Visit) (e : x.rule ≡ rule_of (instr x).op) (to r : ℕ) (h : nar
   test = rw e (narrowed-test (instr x).op _ _ _ _ _ (rw e at h))
 
   -- so no output of a test has an origin
-  test-outputs : (k : ℕ) → (output (outputs x) k).flow.origin ≡ Nowhere
+  test-outputs : (k : ℕ) → (output (outputs x) k).flow.origin ≡ None
   unfolding outputs made_from output first_output second_output rest_output made new_flow
   test-outputs k = go k test.makes test.others
     where
-      go : (k : ℕ) → x.rule.makes ≡ Anything → x.rule.others ≡ Unknowns → (output (outputs x) k).flow.origin ≡ Nowhere
+      go : (k : ℕ) → x.rule.makes ≡ Anything → x.rule.others ≡ Unknowns → (output (outputs x) k).flow.origin ≡ None
       go zero m o = rw m
       go (suc zero) m o = rw (m, o)
       go (suc (suc k)) m o = rw (m, o)

@@ -6,9 +6,7 @@ use mathlib.Core.Bool.{cond}
 use mathlib.Core.List.{List}
 use lib.ListN.{length, get_or}
 use Rattle.ops.specs.declared.Rule.{Rule}
-use Rattle.description.specs.declared.Instr.{Instr}
 use Rattle.ops.specs.Ops.{rule_of}
-use Rattle.words.specs.Layout.{cell_at}
 use Rattle.words.proofs.Laws.{cell_at-same}
 use Rattle.words.specs.Rows.{cells_at}
 use Rattle.words.proofs.RowLaws.{cells_at-length, cells_at-same}
@@ -24,7 +22,7 @@ use Rattle.row_join.specs.declared.joining.Leaving.{Leaving}
 use Rattle.row_join.specs.joining.Met.{SetAs}
 use Rattle.definition.specs.Ways.{is_reset}
 use Rattle.visit.specs.declared.RowVisit.{RowVisit}
-use Rattle.visit.specs.Held.{known_in, Looking, args_in, state_of, visit_in}
+use Rattle.visit.specs.Held.{Looking, args_in, state_of, visit_in}
 use Rattle.layout.proofs.Read.{stack_is, locals-is}
 use Rattle.visit.proofs.operands.Parts.{ins-is, rule-is}
 use Rattle.visit.proofs.Visits.{at-is, args_are, below-is, below-long}

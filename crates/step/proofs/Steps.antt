@@ -3,7 +3,7 @@ use Prim.Native.Nat.{ℕ, suc, ◌+◌, ◌<◌, ◌≤◌}
 use native.Mathlib.Omega.{arith}
 use mathlib.Core.Path.{◌≡◌, refl, sym, ap, ◌∙◌}
 use mathlib.Core.Bool.{Bool, true, false, cond}
-use mathlib.Core.Option.{none, some}
+use mathlib.Core.Option.{none}
 use mathlib.Core.List.{List}
 use lib.ListN.{length, get_or}
 use Rattle.answers.specs.Answers.{refusal}
@@ -37,13 +37,10 @@ use Rattle.run_state.proofs.Rows.{states-at}
 use Rattle.run_state.proofs.Stays.{facts-low}
 use Rattle.run_state.proofs.Queues.{queue-at, queued-kept}
 use Rattle.form_laws.proofs.Admitted.{chunk-admitted}
-use Rattle.propagate.specs.declared.Went.TheVariants.{On, Stop as Turned}
 use Rattle.propagate.specs.Steps.{PassReady}
 use Rattle.propagate.specs.Passing.{LeavesInRow, ways_in, Passed}
 use Rattle.form_laws.proofs.Tests.{ne-pos}
 use Rattle.rule_laws.proofs.Faults.{low-enough}
-use Rattle.step.specs.declared.Step.{Step}
-use Rattle.step.specs.declared.Step.TheVariants.{Go, Stop}
 use Rattle.step.specs.Alike.{Alike}
 use Rattle.step.proofs.Alike.{after-high}
 use Rattle.step.specs.Taking.{taking_of, fault_of}
@@ -52,6 +49,7 @@ use Rattle.step.proofs.Frames.{looking-facts}
 use Rattle.step.proofs.Taken.{stops, goes, still-between, past-stays, long-stays}
 use Rattle.step.proofs.Faults.{faultless}
 use Rattle.step.specs.Took.{Took}
+use Rattle.std.specs.Prelude.{Result, Ok, Err}
 
 -- ---- only the rounds add to the facts
 module _ (s ws : List ℕ) (b : Bool) (f : Live) (g : Gift) where
@@ -97,7 +95,7 @@ module _ (s ws : List ℕ) (r : Run) (q : Queue) (i : ℕ) (between : Between s 
       states-at s r.chunk ws i l
       ∙ ap (state_by ws (row_at (module_of s) r.chunk i) (chunk_no (module_of s) r.chunk).stack (chunk_no (module_of s) r.chunk).locals) e
 
-  pub took-dropped : (x : Run) → x ≡ record { validating = r.validating; chunk = r.chunk; queue = q; steps = r.steps + 1; changed = r.changed } → Took s ws ws r q i (Go x)
+  pub took-dropped : (x : Run) → x ≡ record { validating = r.validating; chunk = r.chunk; queue = q; steps = r.steps + 1; changed = r.changed } → Took s ws ws r q i (Ok x)
   unfolding Took taking_of visit visit_at seen_in work_in
   took-dropped x p = rw p (
     ap (visit_at join (room_in s ws) (λ (y : Live). y.known) (adds (analysis_in s ws) r.validating) (leaves (known_as s) r.validating (chunk_no (module_of s) r.chunk)) (live_in s ws r.changed) (states_in s ws r.chunk) (queue_of ws (words_of (module_of s)) q) i) none-there,
@@ -123,14 +121,14 @@ module _ (s ws : List ℕ) (r : Run) (v : RowVisit) (q : Queue) (between : Betwe
   signed =
       omega (arith, (chunk-admitted (module_of s) (module_of s).chunks v.chunk between.prepared.admitted look.chunk (rw same between.reachable)).signed, (look.indexed.good.each_chunk v.chunk look.chunk).number)
 
-  stop-by : (u : List ℕ) (n : ℕ) → taking_of s ws r q v.at ≡ bad n → (f : Refusal) → f ≡ refusal n r.chunk v.at (r.steps + 1) → Took s ws u r q v.at (Stop f)
+  stop-by : (u : List ℕ) (n : ℕ) → taking_of s ws r q v.at ≡ bad n → (f : Refusal) → f ≡ refusal n r.chunk v.at (r.steps + 1) → Took s ws u r q v.at (Err f)
   unfolding Took
   stop-by u n t f g =
       let number : n ≡ f.number = ap (λ (x : Refusal). x.number) (sym g) in
       (t ∙ ap bad number, g ∙ ap (λ (k : ℕ). refusal k r.chunk v.at (r.steps + 1)) number)
 
   pub took-faulty : (u : List ℕ) (n : ℕ) → n ≡ fault_of r.validating (visit_in s ws v) → (n ≡ 0 → ⊥)
-      → (f : Refusal) → f ≡ refusal n r.chunk v.at (r.steps + 1) → Took s ws u r q v.at (Stop f)
+      → (f : Refusal) → f ≡ refusal n r.chunk v.at (r.steps + 1) → Took s ws u r q v.at (Err f)
   took-faulty u n e d = stop-by u n (taking-faulty s ws r v q look same between.prepared.known n (sym e) d)
 
   module _ (ch : Chunk) (e : ch ≡ chunk_at s ws v.chunk) (l : Leaving) (alike : Alike ws ch v (visit_in s ws v) l)
@@ -164,15 +162,15 @@ module _ (s ws : List ℕ) (r : Run) (v : RowVisit) (q : Queue) (between : Betwe
             leaves = leaves-low;
           }
 
-      pub took-stopped : (u : List ℕ) (n : ℕ) → Passed s w u v q (ways_in w ch v l) (Turned n)
-          → (x : Refusal) → x ≡ refusal n r.chunk v.at (r.steps + 1) → Took s ws u r q v.at (Stop x)
+      pub took-stopped : (u : List ℕ) (n : ℕ) → Passed s w u v q (ways_in w ch v l) (Err n)
+          → (x : Refusal) → x ≡ refusal n r.chunk v.at (r.steps + 1) → Took s ws u r q v.at (Err x)
       unfolding Passed
       took-stopped u n p = stop-by u n (stops s ws w u r v q ch l between look same e alike fine f n p)
 
       pub took-on : (u : List ℕ) (p : Queue) (changed : Bool)
           → live_in s w changed ≡ adds (analysis_in s ws) r.validating (live_in s ws r.changed) (gives (visit_in s ws v))
-          → Passed s w u v q (ways_in w ch v l) (On p)
-          → Took s ws u r q v.at (Go (record { validating = r.validating; chunk = r.chunk; queue = p; steps = r.steps + 1; changed = changed }))
+          → Passed s w u v q (ways_in w ch v l) (Ok p)
+          → Took s ws u r q v.at (Ok (record { validating = r.validating; chunk = r.chunk; queue = p; steps = r.steps + 1; changed = changed }))
       unfolding Passed Took
       took-on u p changed live (put, only, low, queued) = (
         goes s ws w u r v q ch l between look same e alike fine f p changed live put only low queued (r.steps + 1),
@@ -189,7 +187,7 @@ base-is : (s : List ℕ) (t : Tables) → t ≡ tables_of s → t.queue_at ≡ w
 unfolding tables_of
 base-is s t e = ap (λ (x : Tables). x.queue_at) e
 
-pub took-at : (s ws u : List ℕ) (r : Run) (x : Step) (q p : Queue) (i j : ℕ) → q ≡ p → i ≡ j → Took s ws u r q i x → Took s ws u r p j x
+pub took-at : (s ws u : List ℕ) (r : Run) (x : Result Run Refusal) (q p : Queue) (i j : ℕ) → q ≡ p → i ≡ j → Took s ws u r q i x → Took s ws u r p j x
 took-at s ws u r x q p i j a b t = rw b at (rw a at t)
 
 module _ (s ws : List ℕ) (r : Run) (t : Tables) (between : Between s ws r) (some : 0 < r.queue.count) (e : t ≡ tables_of s) where

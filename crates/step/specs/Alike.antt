@@ -1,6 +1,5 @@
 -- The code's visit of a row beside the definition's visit: what has to agree.
 use Rattle.std.specs.Prelude.{ℕ, ◌+◌, ◌<◌, ◌≡◌, cond, List, length}
-use Rattle.cells.specs.Cell.{made}
 use Rattle.ops.specs.Ops.{rule_of}
 use Rattle.words.specs.Layout.{cell_at}
 use Rattle.words.specs.Rows.{cells_at}

@@ -23,27 +23,16 @@ use index::{chunk_at, row_height};
 use layout::{Chunk, Tables, row_at};
 use ops::Acts;
 use outputs::{made_at, set_local};
-use propagate::{Went, go_all};
+use propagate::go_all;
 use ring::{Queue, peek, popped};
 use row_join::Leaving;
 use run_state::Run;
 use visit::{RowVisit, visit_at};
 
-#[derive(Clone, Copy)]
-pub enum Step {
-    Go(Run),
-    Stop(Refusal),
-}
-
 fn resets(v: RowVisit) -> bool
     ensures { result ≡ is_reset v.rule.acts }
 {
-    let rule = v.rule;
-    let acts = rule.acts;
-    match acts {
-        Acts::Resets => true,
-        _ => false,
-    }
+    v.rule.acts == Acts::Resets
 }
 
 // The height after the visit; `Reset` drops what was there.
@@ -117,25 +106,32 @@ fn give_in_rounds(s: &[u8], ws: &mut [u32], t: Tables, ch: Chunk, v: RowVisit, r
 }
 
 // The visit of the entry that was due; q is the queue without it.
-fn visited(s: &[u8], ws: &mut [u32], t: Tables, ch: Chunk, v: RowVisit, r: Run, q: Queue) -> Step
+fn visited(
+    s: &[u8],
+    ws: &mut [u32],
+    t: Tables,
+    ch: Chunk,
+    v: RowVisit,
+    r: Run,
+    q: Queue,
+) -> Result<Run, Refusal>
     requires { VisitDue s.now ws.old t ch v r q }
     ensures { Took s.now ws.old ws.new r q v.at result }
 {
     let steps = r.steps + 1;
     let n = fault(s, ws, t, ch, v, r.validating);
     if n != 0 {
-        return Step::Stop(refuse(n, r.chunk, v.at, steps));
+        return Err(refuse(n, r.chunk, v.at, steps));
     }
     let l = leaving(s, ws, t, ch, v);
     let changed = give_in_rounds(s, ws, t, ch, v, r);
     match go_all(s, ws, t, ch, v, l, q) {
-        Went::Stop(n) => Step::Stop(refuse(n, r.chunk, v.at, steps)),
-        Went::On(q) => Step::Go(Run {
-            validating: r.validating,
-            chunk: r.chunk,
-            queue: q,
+        Err(n) => Err(refuse(n, r.chunk, v.at, steps)),
+        Ok(queue) => Ok(Run {
+            queue,
             steps,
             changed,
+            ..r
         }),
     }
 }
@@ -146,16 +142,14 @@ fn dropped(r: Run, q: Queue) -> Run
     ensures { result ≡ record { validating = r.validating; chunk = r.chunk; queue = q; steps = r.steps + 1; changed = r.changed } }
 {
     Run {
-        validating: r.validating,
-        chunk: r.chunk,
         queue: q,
         steps: r.steps + 1,
-        changed: r.changed,
+        ..r
     }
 }
 
-// One taking of the entry due.
-pub fn take(s: &[u8], ws: &mut [u32], t: Tables, r: Run) -> Step
+// One taking of the entry due: the run after it, or the refusal.
+pub fn take(s: &[u8], ws: &mut [u32], t: Tables, r: Run) -> Result<Run, Refusal>
     requires between { Between s.now ws.old r }
     requires count_nonzero { 0 < r.queue.count }
     requires t_value { t ≡ tables_of s.now }
@@ -169,7 +163,7 @@ pub fn take(s: &[u8], ws: &mut [u32], t: Tables, r: Run) -> Step
     let at = peek(ws, t.queue_at, queue) as usize;
     let q = popped(ws, t.queue_at, queue);
     if row_height(ws, row_at(ch, at)) == 0 {
-        return Step::Go(dropped(r, q));
+        return Ok(dropped(r, q));
     }
     let v = visit_at(s, ws, r.chunk, ch, at);
     visited(s, ws, t, ch, v, r, q)

@@ -1,4 +1,5 @@
 -- A description's sizes, stacks and locals are within the bounds that are made from it.
+use Rattle.std.specs.Prelude.{Option as Maybe, None, Some}
 use Prim.Native.Nat.{ℕ, ◌+◌, ◌*◌, ◌-◌, ◌≤◌}
 use native.Mathlib.Nat.{add-mul, mul-le-mul_right}
 use native.Mathlib.Omega.{arith}
@@ -13,10 +14,6 @@ use Rattle.widths.specs.declared.Shape.{Shape}
 use Rattle.widths.specs.Shape.{declared_width}
 use Rattle.extents.specs.declared.BodyExtent.{BodyExtent}
 use Rattle.extents.specs.declared.BodyExtent.TheVariants.{Absent, Range, Unknown}
-use Rattle.flows.specs.declared.Owned.{Owned}
-use Rattle.flows.specs.declared.Owned.TheVariants.{No, Yes}
-use Rattle.flows.specs.declared.Origin.{Origin}
-use Rattle.flows.specs.declared.Origin.TheVariants.{Nowhere, Local}
 use Rattle.flows.specs.declared.Predicate.{Predicate}
 use Rattle.flows.specs.declared.Predicate.TheVariants.{Nothing as Untested, Tests}
 use Rattle.cells.specs.declared.Cell.{Cell}
@@ -74,15 +71,15 @@ module _ (most : ℕ) where
   body-most (Range a b) (pa, pb) = omega arith
   body-most Unknown p = omega arith
 
-  owned-most : (x : Owned) → owned_left x ≤ 1
+  owned-most : (x : Bool) → owned_left x ≤ 1
   unfolding owned_left
-  owned-most No = omega arith
-  owned-most Yes = omega arith
+  owned-most false = omega arith
+  owned-most true = omega arith
 
-  origin-most : (x : Origin) → origin_left x ≤ 1
+  origin-most : (x : Maybe ℕ) → origin_left x ≤ 1
   unfolding origin_left
-  origin-most Nowhere = omega arith
-  origin-most (Local l) = omega arith
+  origin-most None = omega arith
+  origin-most (Some l) = omega arith
 
   predicate-most : (x : Predicate) → predicate_left x ≤ 1
   unfolding predicate_left

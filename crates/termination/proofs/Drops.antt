@@ -1,4 +1,5 @@
 -- A join never makes more left, and less where it changes something: of each part of a cell, of cells, lists of them and states.
+use Rattle.std.specs.Prelude.{Option, None, Some}
 use Prim.Native.Nat.{ℕ, ◌+◌, ◌-◌, ◌<◌, ◌≤◌, min, max}
 use native.Mathlib.Omega.{arith}
 use mathlib.Core.Path.{◌≡◌, refl, sym, ◌∙◌}
@@ -15,10 +16,6 @@ use Rattle.extents.specs.declared.BodyExtent.{BodyExtent}
 use Rattle.extents.specs.declared.BodyExtent.TheVariants.{Absent, Range, Unknown}
 use Rattle.extents.specs.declared.Extent.{Extent}
 use Rattle.extents.specs.Extent.{join_body, same_body, join_bodies, same_bodies}
-use Rattle.flows.specs.declared.Owned.{Owned}
-use Rattle.flows.specs.declared.Owned.TheVariants.{No, Yes}
-use Rattle.flows.specs.declared.Origin.{Origin}
-use Rattle.flows.specs.declared.Origin.TheVariants.{Nowhere, Local}
 use Rattle.flows.specs.declared.Predicate.{Predicate}
 use Rattle.flows.specs.declared.Predicate.TheVariants.{Nothing as Untested, Tests}
 use Rattle.flows.specs.declared.Flow.{Flow}
@@ -94,13 +91,13 @@ width-drop = flat-drop same_width Wide width-equals width_left refl go
     go (Scalar n) h = omega arith
     go (Body n) h = omega arith
 
-origin-drop : (x y : Origin) → Drop (same_origin x (join_origin x y)) (origin_left (join_origin x y)) (origin_left x)
+origin-drop : (x y : Option ℕ) → Drop (same_origin x (join_origin x y)) (origin_left (join_origin x y)) (origin_left x)
 unfolding origin_left
-origin-drop = flat-drop same_origin Nowhere origin-equals origin_left refl go
+origin-drop = flat-drop same_origin None origin-equals origin_left refl go
   where
-    go : (x : Origin) → same_origin x Nowhere ≡ false → 0 < origin_left x
-    go Nowhere h = absurd (true≢false h)
-    go (Local l) h = omega arith
+    go : (x : Option ℕ) → same_origin x None ≡ false → 0 < origin_left x
+    go None h = absurd (true≢false h)
+    go (Some l) h = omega arith
 
 predicate-drop : (x y : Predicate) → Drop (same_predicate x (join_predicate x y)) (predicate_left (join_predicate x y)) (predicate_left x)
 unfolding predicate_left
@@ -110,11 +107,11 @@ predicate-drop = flat-drop same_predicate Untested predicate-equals predicate_le
     go Untested h = absurd (true≢false h)
     go (Tests r w) h = omega arith
 
-owned-drop : (x y : Owned) → Drop (same_owned x (join_owned x y)) (owned_left (join_owned x y)) (owned_left x)
+owned-drop : (x y : Bool) → Drop (same_owned x (join_owned x y)) (owned_left (join_owned x y)) (owned_left x)
 unfolding owned_left
-owned-drop Yes y = drop-same refl
-owned-drop No Yes = drop-less (omega arith)
-owned-drop No No = drop-same refl
+owned-drop true y = drop-same refl
+owned-drop false true = drop-less (omega arith)
+owned-drop false false = drop-same refl
 
 -- ---- extents
 module _ (most : ℕ) where

@@ -9,10 +9,9 @@ use mathlib.Core.List.{List, [], ◌∷◌, ◌++◌}
 use lib.Dec.{ltb}
 use lib.ListN.{length, get_or}
 use borrow.Author.Tests.{ltb-true, ltb-false}
+use Rattle.std.specs.Prelude.{Ok, Err}
 use Rattle.answers.specs.declared.Refusal.{Refusal}
-use Rattle.answers.specs.declared.Answer.TheVariants.{Refused}
 use Rattle.answers.specs.Answers.{refusal}
-use Rattle.definition.specs.declared.Form.TheVariants.{Fine}
 use Rattle.definition.specs.Res.{Res, ok, bad, bind}
 use Rattle.definition.specs.Machine.{Joined, Effect, Work, Seen, Machine, Where, due, done, stop, Stop, Analysis, refused, halt, put, puts, visit_at, visit, adds, finish, on_seen, takes, next, begun, check}
 use Rattle.definition.specs.Module.{Module, module_of}
@@ -249,7 +248,7 @@ module _ (k : Known) (cap limit : ℕ) (f : Facts) (ρ : Refusal) where
   )
 
 -- ---- the call
-module _ (s : List ℕ) (w : ℕ) (fine : form_of s ≡ Fine w) (ws buf : List ℕ) (limit : ℕ) (r : Refusal) where
+module _ (s : List ℕ) (w : ℕ) (fine : form_of s ≡ Ok w) (ws buf : List ℕ) (limit : ℕ) (r : Refusal) where
   abbrev m : Module
   m = module_of s
 
@@ -258,7 +257,7 @@ module _ (s : List ℕ) (w : ℕ) (fine : form_of s ≡ Fine w) (ws buf : List �
   Comes = (w < length ws) × Runs m (length ws - w) limit
 
   -- a number that only a run refuses by
-  by-run : (n : ℕ) → 7 ≤ n → n ≤ 8 → (call s ws buf limit).answer ≡ Refused r → r.number ≡ n → Comes × (run_for m (length ws - w) limit ≡ refused r)
+  by-run : (n : ℕ) → 7 ≤ n → n ≤ 8 → (call s ws buf limit).answer ≡ Err r → r.number ≡ n → Comes × (run_for m (length ws - w) limit ≡ refused r)
   by-run n a b e z = answered (call-decided s w fine ws buf limit r e)
     where
       stopped : w < length ws → Stopped m (length ws - w) limit r → Comes × (run_for m (length ws - w) limit ≡ refused r)
@@ -270,11 +269,11 @@ module _ (s : List ℕ) (w : ℕ) (fine : form_of s ≡ Fine w) (ws buf : List �
       answered (inr (inl p)) = absurd (omega arith)
       answered (inr (inr (l, p))) = stopped l (decided-run m (length ws - w) limit r p)
 
-  run_by : Comes → run_for m (length ws - w) limit ≡ refused r → (call s ws buf limit).answer ≡ Refused r
+  run_by : Comes → run_for m (length ws - w) limit ≡ refused r → (call s ws buf limit).answer ≡ Err r
   run_by (l, c) e = decided-call s w fine ws buf limit r l (run-decided m (length ws - w) limit r c e)
 
   -- THEOREM: a call is refused by 8 exactly where its run has to put an entry into a full queue; the queue has the words beyond W
-  pub call-eight : (((call s ws buf limit).answer ≡ Refused r) × (r.number ≡ 8))
+  pub call-eight : (((call s ws buf limit).answer ≡ Err r) × (r.number ≡ 8))
       ↔ (Comes × FilledRun (known_of m (first_facts m)) (length ws - w) limit (first_facts m) r)
   call-eight = (
     λ (e, z). let (c, q) = by-run 8 (omega arith) (omega arith) e z in (c, (run-eight _ (length ws - w) limit _ r).0 (q, z)),
@@ -282,7 +281,7 @@ module _ (s : List ℕ) (w : ℕ) (fine : form_of s ≡ Fine w) (ws buf : List �
   )
 
   -- THEOREM: and by 7 exactly where in its run an entry is due and the limit is used up
-  pub call-seven : (((call s ws buf limit).answer ≡ Refused r) × (r.number ≡ 7))
+  pub call-seven : (((call s ws buf limit).answer ≡ Err r) × (r.number ≡ 7))
       ↔ (Comes × SpentRun (known_of m (first_facts m)) (length ws - w) limit (first_facts m) r)
   call-seven = (
     λ (e, z). let (c, q) = by-run 7 (omega arith) (omega arith) e z in (c, (run-seven _ (length ws - w) limit _ r).0 (q, z)),

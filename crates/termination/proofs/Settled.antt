@@ -8,9 +8,8 @@ use mathlib.Core.List.{List, ◌++◌}
 use lib.Dec.{ltb}
 use lib.ListN.{length, drop, replicate}
 use borrow.Author.Tests.{lt-leb}
-use Rattle.answers.specs.declared.Answer.TheVariants.{Accepted}
-use Rattle.answers.specs.Answers.{nowhere}
-use Rattle.definition.specs.declared.Form.TheVariants.{Fine}
+use Rattle.std.proofs.Common.{Ok}
+use Rattle.answers.specs.Answers.{nowhere, accepts}
 use Rattle.definition.specs.Machine.{Ran, accepted, refused}
 use Rattle.definition.specs.Module.{Module, module_of}
 use Rattle.definition.specs.State.{State, Facts}
@@ -48,7 +47,7 @@ decided-settled m cap cap' n n' h = go (admitted m m.chunks) h
     go (some x) h = refl
     go none h = replied (reply_maximum (known_of m (first_facts m)).reply) (h refl)
 
-pub one-decided : (s : List ℕ) (w : ℕ) → form_of s ≡ Fine w → (cap n : ℕ) → room_for (module_of s) ≤ cap → limit_for (module_of s) ≤ n
+pub one-decided : (s : List ℕ) (w : ℕ) → form_of s ≡ Ok w → (cap n : ℕ) → room_for (module_of s) ≤ cap → limit_for (module_of s) ≤ n
     → decided (module_of s) cap n ≡ decided (module_of s) (room_for (module_of s)) (limit_for (module_of s))
 one-decided s w h cap n c l =
     decided-settled (module_of s) (room_for (module_of s)) cap (limit_for (module_of s)) n
@@ -62,7 +61,7 @@ outcome-same (turned r) ws ws' buf = (refl, refl)
 outcome-same (reported x n) ws ws' buf = go (ltb (length buf) (length (report_bytes x)))
   where
     done : List ℕ → Outcome
-    done ws = record { answer = Accepted (length (report_bytes x)) n; report = report_bytes x ++ drop (length (report_bytes x)) buf; workspace = replicate (length ws) 0 }
+    done ws = record { answer = accepts (length (report_bytes x)) n; report = report_bytes x ++ drop (length (report_bytes x)) buf; workspace = replicate (length ws) 0 }
 
     go : (b : Bool) → ((cond b (turned_back (nowhere 6 n) ws buf) (done ws)).answer ≡ (cond b (turned_back (nowhere 6 n) ws' buf) (done ws')).answer)
         × ((cond b (turned_back (nowhere 6 n) ws buf) (done ws)).report ≡ (cond b (turned_back (nowhere 6 n) ws' buf) (done ws')).report)
@@ -70,7 +69,7 @@ outcome-same (reported x n) ws ws' buf = go (ltb (length buf) (length (report_by
     go false = (refl, refl)
 
 -- THEOREM: words and a limit from which on answer and report are always the same
-pub one_answer : (s : List ℕ) (w : ℕ) → form_of s ≡ Fine w → (words : ℕ) × (limit : ℕ) × OneAnswer s words limit
+pub one_answer : (s : List ℕ) (w : ℕ) → form_of s ≡ Ok w → (words : ℕ) × (limit : ℕ) × OneAnswer s words limit
 unfolding decide on_form call
 one_answer s w h = (suc (w + room_for (module_of s)), limit_for (module_of s), go)
   where

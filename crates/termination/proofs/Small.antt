@@ -20,7 +20,6 @@ use Rattle.extents.specs.declared.BodyExtent.TheVariants.{Absent, Range, Unknown
 use Rattle.extents.specs.declared.Extent.{Extent}
 use Rattle.extents.specs.Extent.{join_body, join_bodies}
 use Rattle.flows.specs.declared.Flow.{Flow}
-use Rattle.flows.specs.declared.Owned.{Owned}
 use Rattle.flows.specs.Flow.{join_flow, no_flow, new_flow, extent_of_kind, absent, invalidated, bare}
 use Rattle.cells.specs.declared.Cell.{Cell}
 use Rattle.cells.specs.Cell.{join_cell, invalidated_cell, bare_cell, narrow_enum, unit_cell}
@@ -132,7 +131,7 @@ module _ (most : ℕ) where
   extent-of true (Body n) p = (p, p)
   extent-of false w p = tt
 
-  flow-new : (m : Mask) (w : Width) (o : Owned) → SmallWidth w → SmallFlow (new_flow m w o)
+  flow-new : (m : Mask) (w : Width) (o : Bool) → SmallWidth w → SmallFlow (new_flow m w o)
   unfolding new_flow
   flow-new m w o p = record {
     four = omega arith;

@@ -8,9 +8,8 @@ use mathlib.Core.Option.{none}
 use mathlib.Core.List.{List, [], ◌∷◌}
 use lib.ListN.{length, get_or, length-set, length-map, length-take, length-replicate}
 use borrow.Author.Tests.{not-true}
+use Rattle.std.specs.Prelude.{Ok, Err}
 use Rattle.answers.specs.declared.Refusal.{Refusal}
-use Rattle.answers.specs.declared.Answer.TheVariants.{Refused}
-use Rattle.definition.specs.declared.Form.TheVariants.{Fine}
 use Rattle.definition.specs.Res.{ok}
 use Rattle.definition.specs.Machine.{Joined}
 use Rattle.definition.specs.Module.{Module, Chunk, module_of}
@@ -134,7 +133,7 @@ module _ (m : Module) (inits : All SmallMask m.inits) (signed : m.signatures ≤
       (state_left most) (state_most m) (changes_left most) (λ c. length c.code) (ends cap) chunks_fit r limit facts facts-fit l
 
 -- THEOREM: from this room and limit on, what is decided of a description of good form is refused neither by 7 nor by 8
-pub enough-here : (s : List ℕ) (w : ℕ) → form_of s ≡ Fine w → Enough (module_of s) (room_for (module_of s)) (limit_for (module_of s))
+pub enough-here : (s : List ℕ) (w : ℕ) → form_of s ≡ Ok w → Enough (module_of s) (room_for (module_of s)) (limit_for (module_of s))
 enough-here s w h cap n c l r e = go (decided-run (module_of s) cap n r e)
   where
     go : Stopped (module_of s) cap n r → Otherwise r.number
@@ -142,11 +141,11 @@ enough-here s w h cap n c l r e = go (decided-run (module_of s) cap n r e)
     go (inr (a, q)) = rw q at (run_ends (module_of s) (inits-small s) (good-form s w h).signatures a.chunks cap n c l)
 
 -- THEOREM: such a room and limit exist
-pub enough : (s : List ℕ) (w : ℕ) → form_of s ≡ Fine w → (room : ℕ) × (limit : ℕ) × Enough (module_of s) room limit
+pub enough : (s : List ℕ) (w : ℕ) → form_of s ≡ Ok w → (room : ℕ) × (limit : ℕ) × Enough (module_of s) room limit
 enough s w h = (room_for (module_of s), limit_for (module_of s), enough-here s w h)
 
 -- THEOREM: so do words enough for a call, which is then not refused by 5 either
-pub enough-words : (s : List ℕ) (w : ℕ) → form_of s ≡ Fine w → (words : ℕ) × (limit : ℕ) × EnoughWords s words limit
+pub enough-words : (s : List ℕ) (w : ℕ) → form_of s ≡ Ok w → (words : ℕ) × (limit : ℕ) × EnoughWords s words limit
 enough-words s w h = (
   suc (w + room_for (module_of s)),
   limit_for (module_of s),
@@ -167,5 +166,5 @@ enough-indexed s words limit h ws buf idx n c l r e = (
   λ z. (h ws buf n c l r (alone (omega arith))).1 z,
 )
   where
-    alone : r.number ≤ 18 → (call s ws buf n).answer ≡ Refused r
+    alone : r.number ≤ 18 → (call s ws buf n).answer ≡ Err r
     alone u = indexed-as s ws buf idx n r e u

@@ -9,10 +9,9 @@ use mathlib.Core.List.{List, ◌++◌}
 use lib.Dec.{ltb, leb}
 use lib.ListN.{length, drop, replicate}
 use borrow.Author.Tests.{leb-true, leb-false, lt-leb}
+use Rattle.std.specs.Prelude.{Ok, Err}
 use Rattle.answers.specs.declared.Refusal.{Refusal}
-use Rattle.answers.specs.declared.Answer.TheVariants.{Accepted, Refused}
-use Rattle.answers.specs.Answers.{nowhere}
-use Rattle.definition.specs.declared.Form.TheVariants.{Fine}
+use Rattle.answers.specs.Answers.{nowhere, accepts}
 use Rattle.definition.specs.Machine.{Ran, accepted, refused}
 use Rattle.definition.specs.Module.{Module, module_of}
 use Rattle.definition.specs.State.{State, Facts}
@@ -80,28 +79,28 @@ module _ (m : Module) (cap limit : ℕ) where
 
 -- ---- a call
 module _ (ws buf : List ℕ) (r : Refusal) where
-  delivered-six : (bytes : List ℕ) (steps : ℕ) → (delivered bytes steps ws buf).answer ≡ Refused r → r.number ≡ 6
+  delivered-six : (bytes : List ℕ) (steps : ℕ) → (delivered bytes steps ws buf).answer ≡ Err r → r.number ≡ 6
   unfolding delivered turned_back
   delivered-six bytes steps e = go (ltb (length buf) (length bytes)) e
     where
       done : Outcome
-      done = record { answer = Accepted (length bytes) steps; report = bytes ++ drop (length bytes) buf; workspace = replicate (length ws) 0 }
+      done = record { answer = accepts (length bytes) steps; report = bytes ++ drop (length bytes) buf; workspace = replicate (length ws) 0 }
 
-      go : (b : Bool) → (cond b (turned_back (nowhere 6 steps) ws buf) done).answer ≡ Refused r → r.number ≡ 6
+      go : (b : Bool) → (cond b (turned_back (nowhere 6 steps) ws buf) done).answer ≡ Err r → r.number ≡ 6
       go true e = let q : nowhere 6 steps ≡ r = cc in rw (← q)
       go false e = absurd (let z : ◌≡◌ {A = ℕ} 0 1 = cc in omega arith)
 
-  outcome-turned : (d : Decided) → (outcome_of d ws buf).answer ≡ Refused r → (r.number ≡ 6) ⊎ (d ≡ turned r)
+  outcome-turned : (d : Decided) → (outcome_of d ws buf).answer ≡ Err r → (r.number ≡ 6) ⊎ (d ≡ turned r)
   unfolding outcome_of turned_back
   outcome-turned (reported x n) e = inl (delivered-six (report_bytes x) n e)
   outcome-turned (turned q) e = inr (cc)
 
-module _ (s : List ℕ) (w : ℕ) (fine : form_of s ≡ Fine w) (ws buf : List ℕ) (limit : ℕ) (r : Refusal) where
+module _ (s : List ℕ) (w : ℕ) (fine : form_of s ≡ Ok w) (ws buf : List ℕ) (limit : ℕ) (r : Refusal) where
   abbrev pub Answered : Type 0
   Answered = ((length ws ≤ w) × (r.number ≡ 5)) ⊎ ((r.number ≡ 6) ⊎ ((w < length ws) × (decided (module_of s) (length ws - w) limit ≡ turned r)))
 
   -- THEOREM: a call for a description of good form is refused by 5 or 6, or as is decided
-  pub call-decided : (call s ws buf limit).answer ≡ Refused r → Answered
+  pub call-decided : (call s ws buf limit).answer ≡ Err r → Answered
   unfolding call decide on_form
   call-decided e = go (leb (length ws) w) refl (outcome-turned ws buf r _ (rw fine at e))
     where
@@ -111,6 +110,6 @@ module _ (s : List ℕ) (w : ℕ) (fine : form_of s ≡ Fine w) (ws buf : List �
       go true t (inr h) = inl (leb-true (length ws) w t, let q = turned-inj h in rw (← q))
       go false t (inr h) = inr (inr (leb-false (length ws) w t, h))
 
-  pub decided-call : w < length ws → decided (module_of s) (length ws - w) limit ≡ turned r → (call s ws buf limit).answer ≡ Refused r
+  pub decided-call : w < length ws → decided (module_of s) (length ws - w) limit ≡ turned r → (call s ws buf limit).answer ≡ Err r
   unfolding call decide on_form outcome_of turned_back
   decided-call l e = rw (fine, lt-leb (length ws) w l, e)

@@ -1,10 +1,8 @@
 -- Room and steps that are enough for a description. They show that some are: they are far from the least, and need not fit the 32 bits in
 -- which a caller can name them.
-use Rattle.std.specs.Prelude.{ℕ, ◌+◌, ◌*◌, ◌≤◌, ◌≡◌, false, List, length}
+use Rattle.std.specs.Prelude.{ℕ, ◌+◌, ◌*◌, ◌≤◌, ◌≡◌, false, List, length, Err}
 use Rattle.std.proofs.Math.Option.{Option, none, some}
 use Rattle.answers.specs.declared.Refusal.{Refusal}
-use Rattle.answers.specs.declared.Answer.TheVariants.{Refused}
-use Rattle.answers.specs.declared.IndexedAnswer.TheVariants.{Refused as RefusedWith}
 use Rattle.definition.specs.Module.{Module, Chunk, Line, Site}
 use Rattle.definition.specs.Leaves.{opened}
 use Rattle.definition.specs.Start.{first_facts}
@@ -50,13 +48,13 @@ Enough m room limit = (cap n : ℕ) → room ≤ cap → limit ≤ n → (r : Re
 -- and so a call with so many words beyond W, nor by 5
 abbrev pub EnoughWords : List ℕ → ℕ → ℕ → Type 0
 EnoughWords s words limit =
-    (ws buf : List ℕ) (n : ℕ) → words ≤ length ws → limit ≤ n → (r : Refusal) → (call s ws buf n).answer ≡ Refused r
+    (ws buf : List ℕ) (n : ℕ) → words ≤ length ws → limit ≤ n → (r : Refusal) → (call s ws buf n).answer ≡ Err r
     → Otherwise r.number × (r.number ≡ 5 → ⊥)
 
 -- and a call with an index
 abbrev pub EnoughIndexed : List ℕ → ℕ → ℕ → Type 0
 EnoughIndexed s words limit =
-    (ws buf idx : List ℕ) (n : ℕ) → words ≤ length ws → limit ≤ n → (r : Refusal) → (call_indexed s ws buf idx n).answer ≡ RefusedWith r
+    (ws buf idx : List ℕ) (n : ℕ) → words ≤ length ws → limit ≤ n → (r : Refusal) → (call_indexed s ws buf idx n).answer ≡ Err r
     → Otherwise r.number × (r.number ≡ 5 → ⊥)
 
 -- from so many words and steps on answer and report depend only on the description and the report buffer

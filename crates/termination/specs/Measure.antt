@@ -1,16 +1,12 @@
 -- How far cells, states and facts can still grow: a number that every join that changes something makes smaller. `most` is a size that no
 -- range passes.
-use Rattle.std.specs.Prelude.{ℕ, ◌+◌, ◌*◌, ◌-◌, Bool, true, false}
+use Rattle.std.specs.Prelude.{ℕ, ◌+◌, ◌*◌, ◌-◌, Bool, true, false, Option, None, Some}
 use Rattle.masks.specs.declared.Mask.{Mask}
 use Rattle.widths.specs.declared.Width.{Width}
 use Rattle.widths.specs.declared.Width.TheVariants.{Unknown as Wide, Scalar, Body}
 use Rattle.extents.specs.declared.BodyExtent.{BodyExtent}
 use Rattle.extents.specs.declared.BodyExtent.TheVariants.{Absent, Range, Unknown}
 use Rattle.extents.specs.declared.Extent.{Extent}
-use Rattle.flows.specs.declared.Owned.{Owned}
-use Rattle.flows.specs.declared.Owned.TheVariants.{No, Yes}
-use Rattle.flows.specs.declared.Origin.{Origin}
-use Rattle.flows.specs.declared.Origin.TheVariants.{Nowhere, Local}
 use Rattle.flows.specs.declared.Predicate.{Predicate}
 use Rattle.flows.specs.declared.Predicate.TheVariants.{Nothing as Untested, Tests}
 use Rattle.flows.specs.declared.Flow.{Flow}
@@ -37,13 +33,13 @@ body_left most Unknown = 1
 unfoldable pub extent_left : ℕ → Extent → ℕ
 extent_left most x = body_left most x.body
 
-unfoldable pub owned_left : Owned → ℕ
-owned_left No = 1
-owned_left Yes = 0
+unfoldable pub owned_left : Bool → ℕ
+owned_left false = 1
+owned_left true = 0
 
-unfoldable pub origin_left : Origin → ℕ
-origin_left Nowhere = 0
-origin_left (Local l) = 1
+unfoldable pub origin_left : Option ℕ → ℕ
+origin_left None = 0
+origin_left (Some l) = 1
 
 unfoldable pub predicate_left : Predicate → ℕ
 predicate_left Untested = 0

@@ -54,12 +54,10 @@ pub fn common_kinds(ws: &[u32], v: RowVisit) -> Mask
     requires { Standing ws.now v }
     ensures { result ≡ common_kinds (of 65535) (args_in ws.now v) }
 {
-    let mut p = v.start;
     let mut m = Mask { bits: 65535 };
-    while p < v.height {
+    for p in v.start..v.height {
         let x = mask_at(ws, place_at(v.row, p));
         m = m.common(x.kind());
-        p += 1;
     }
     m
 }
@@ -69,12 +67,10 @@ pub fn packed_at(ws: &[u32], v: RowVisit, float: u32, handle: u32) -> Packed
     requires { Standing ws.now v }
     ensures { result ≡ packed_extent (args_in ws.now v) float handle }
 {
-    let mut p = v.start;
     let mut sum = Packed::EMPTY;
-    while p < v.height {
+    for p in v.start..v.height {
         let x = load(ws, place_at(v.row, p));
         sum = sum.and_then(packed_one(x, float, handle));
-        p += 1;
     }
     sum
 }

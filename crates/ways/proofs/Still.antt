@@ -10,7 +10,7 @@ use Rattle.ops.specs.declared.Exit.TheVariants.{Next, Stops, Jumps, Ifs, Breaks,
 use Rattle.ops.specs.declared.Acts.TheVariants.{Still}
 use Rattle.ops.specs.declared.Rule.{Rule}
 use Rattle.ops.specs.Ops.{rule_of}
-use Rattle.definition.specs.Outputs.{Visit, arg, instr, outputs, setting}
+use Rattle.definition.specs.Outputs.{Visit, instr, outputs, setting}
 use Rattle.definition.specs.Ways.{exit_of, narrowing, kept, is_reset, after, narrowed_on, set_locals}
 use Rattle.definition.specs.Report.{is_test}
 use Rattle.definition.proofs.Next.{exit-test}

@@ -1,10 +1,8 @@
 -- What the code's answers stand for.
-use Rattle.std.specs.Prelude.{ℕ, List, [], ◌∷◌}
-use Rattle.std.proofs.Math.Option.{Option, none, some}
+use Rattle.std.specs.Prelude.{ℕ, List, [], ◌∷◌, Option, Some, None}
+use Rattle.std.proofs.Math.Option.{Option as Maybe, none, some}
 use Rattle.ways.specs.declared.Ways.{Ways}
 use Rattle.ways.specs.declared.Ways.TheVariants.{Zero, One, Two}
-use Rattle.ways.specs.declared.Narrows.{Narrows}
-use Rattle.ways.specs.declared.Narrows.TheVariants.{Nothing, Local}
 
 -- the targets, in the order in which they are taken
 abbrev pub targets : Ways → List ℕ
@@ -13,6 +11,6 @@ targets (One a) = a ∷ []
 targets (Two a b) = a ∷ b ∷ []
 
 -- the local that is narrowed
-abbrev pub receiver : Narrows → Option ℕ
-receiver Nothing = none
-receiver (Local r) = some r
+abbrev pub receiver : Option ℕ → Maybe ℕ
+receiver None = none
+receiver (Some r) = some r

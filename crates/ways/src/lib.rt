@@ -7,7 +7,7 @@ ghost use Rattle.ways.specs.Ways.{targets, receiver};
 
 use cells::Cell;
 use description::Instr;
-use flows::{Predicate, same_bool};
+use flows::Predicate;
 use masks::Mask;
 use ops::Exit;
 
@@ -17,13 +17,6 @@ pub enum Ways {
     Zero,
     One(usize),
     Two(usize, usize),
-}
-
-// The local that a way narrows to an enum.
-#[derive(Clone, Copy)]
-pub enum Narrows {
-    Nothing,
-    Local(u16),
 }
 
 // How control leaves the instruction at: a test whose target is the next one decides nothing, so it goes on.
@@ -46,10 +39,10 @@ pub fn exit_of(exit: Exit, i: Instr, at: usize) -> Exit
 fn branch(condition: Mask, jumps: Mask, stays: Mask, next: usize, target: usize) -> Ways
     ensures { targets result ≡ branch condition jumps stays next target }
 {
-    if condition.same(jumps) {
+    if condition == jumps {
         return Ways::One(target);
     }
-    if condition.same(stays) {
+    if condition == stays {
         return Ways::One(next);
     }
     Ways::Two(next, target)
@@ -73,33 +66,33 @@ pub fn ways_of(exit: Exit, i: Instr, at: usize, condition: Mask) -> Ways
 }
 
 // The receiver of a predicate that holds where the way counts as counted.
-fn receiver_on(p: Predicate, counted: bool) -> Narrows
+fn receiver_on(p: Predicate, counted: bool) -> Option<u16>
     ensures { receiver result ≡ receiver_on p counted }
 {
     match p {
-        Predicate::Nothing => Narrows::Nothing,
-        Predicate::Tests { receiver, when } => if same_bool(when, counted) {
-            Narrows::Local(receiver)
+        Predicate::Nothing => None,
+        Predicate::Tests { receiver, when } => if when == counted {
+            Some(receiver)
         } else {
-            Narrows::Nothing
+            None
         },
     }
 }
 
 // The receiver that is narrowed on the way to this instruction. A way counts as true when "it goes to the target" and "this is `BreakIf`"
 // agree. condition: the first operand.
-pub fn narrowing(exit: Exit, i: Instr, condition: Cell, to: usize) -> Narrows
+pub fn narrowing(exit: Exit, i: Instr, condition: Cell, to: usize) -> Option<u16>
     ensures { receiver result ≡ narrowing exit condition.flow.predicate i.a to }
 {
     let f = condition.flow;
     let p = f.predicate;
     let jumps = to == (i.a as usize);
     match exit {
-        Exit::Next => Narrows::Nothing,
-        Exit::Stops => Narrows::Nothing,
-        Exit::Jumps => Narrows::Nothing,
+        Exit::Next => None,
+        Exit::Stops => None,
+        Exit::Jumps => None,
         Exit::Ifs => receiver_on(p, !jumps),
         Exit::Breaks => receiver_on(p, jumps),
-        Exit::Restarts => Narrows::Nothing,
+        Exit::Restarts => None,
     }
 }

@@ -2,13 +2,13 @@
 #![tactic(auto)]
 
 ghost use Rattle.std.specs.Prelude.{◌≡◌};
-ghost use Rattle.widths.specs.Width.{same_width, join_width, scalar_width};
+ghost use Rattle.widths.specs.Width.{join_width, scalar_width};
 ghost use Rattle.widths.specs.Shape.{shape_mask, declared_width};
 
 use masks::Mask;
 
 // What is known of a value's size in bytes.
-#[derive(Clone, Copy)]
+#[derive(Clone, Copy, PartialEq, Eq)]
 pub enum Width {
     Unknown,
     Scalar(u32),
@@ -42,37 +42,11 @@ pub fn scalar_width(mask: Mask, float: u32) -> Width
 }
 
 impl Width {
-    pub fn same(self, other: Width) -> bool
-        ensures { result ≡ same_width self other }
-    {
-        match self {
-            Width::Unknown => match other {
-                Width::Unknown => true,
-                Width::Scalar(_) => false,
-                Width::Body(_) => false,
-            },
-            Width::Scalar(a) => match other {
-                Width::Unknown => false,
-                Width::Scalar(b) => a == b,
-                Width::Body(_) => false,
-            },
-            Width::Body(a) => match other {
-                Width::Unknown => false,
-                Width::Scalar(_) => false,
-                Width::Body(b) => a == b,
-            },
-        }
-    }
-
     // Unequal widths join to Unknown.
     pub fn join(self, other: Width) -> Width
         ensures { result ≡ join_width self other }
     {
-        if self.same(other) {
-            self
-        } else {
-            Width::Unknown
-        }
+        if self == other { self } else { Width::Unknown }
     }
 }
 

@@ -1,17 +1,14 @@
 -- Cells to words and back, word by word, and which cells fit.
+use Rattle.std.specs.Prelude.{Bool, Option}
 use Prim.Native.Nat.{ℕ, zero, suc, ◌+◌, ◌/◌, ◌%◌, ◌<◌}
 use native.Mathlib.Omega.{arith}
 use mathlib.Core.List.{List, [], ◌∷◌}
-use mathlib.Core.Path.{◌≡◌, refl, ap₂, ◌∙◌}
-use borrow.Author.Count.{below_more}
-use lib.Seq.{get_or-set_same, get_or-set_other}
+use mathlib.Core.Path.{◌≡◌, refl, ap₂}
 use lib.ListN.{get_or, set, length}
 use Rattle.masks.specs.Mask.{of}
 use Rattle.widths.specs.declared.Width.{Width}
 use Rattle.extents.specs.declared.BodyExtent.{BodyExtent}
 use Rattle.extents.specs.declared.Extent.{Extent}
-use Rattle.flows.specs.declared.Owned.{Owned}
-use Rattle.flows.specs.declared.Origin.{Origin}
 use Rattle.flows.specs.declared.Predicate.{Predicate}
 use Rattle.cells.specs.declared.Cell.{Cell}
 use Rattle.words.specs.declared.cell.Two.{Two}
@@ -23,17 +20,13 @@ pub encoded : (c : Cell) (t : Two) (x : Four) (o p : Two) (n : ℕ) → t ≡ tw
 unfolding encode
 encoded c t x o p n qt qx qo qp qn = λ i. words_of c.mask (qt i) (qx i) (qo i) (qp i) (qn i)
 
-pub decoded : (g : ℕ → ℕ) (w : Width) (e0 e1 e2 e3 : Extent) (n : Owned) (o : Origin) (p : Predicate) → w ≡ width_of (g 0 / 65536 % 4) (g 1) → e0 ≡ extent_of (g 2) (g 3) (g 4) → e1 ≡ extent_of (g 5) (g 6) (g 7) → e2 ≡ extent_of (g 8) (g 9) (g 10) → e3 ≡ extent_of (g 11) (g 12) (g 13) → n ≡ owned_of (g 0 / 65536 / 4 % 4) → o ≡ origin_of (g 0 / 65536 / 64 % 2) (g 14 % 65536) → p ≡ predicate_of (g 0 / 65536 / 16 % 4) (g 14 / 65536) → ◌≡◌ {A = Cell} (record { mask = of (g 0 % 65536); width = w; flow = record { bodies = e0 ∷ e1 ∷ e2 ∷ e3 ∷ []; owned = n; origin = o; predicate = p } }) (decode g)
+pub decoded : (g : ℕ → ℕ) (w : Width) (e0 e1 e2 e3 : Extent) (n : Bool) (o : Option ℕ) (p : Predicate) → w ≡ width_of (g 0 / 65536 % 4) (g 1) → e0 ≡ extent_of (g 2) (g 3) (g 4) → e1 ≡ extent_of (g 5) (g 6) (g 7) → e2 ≡ extent_of (g 8) (g 9) (g 10) → e3 ≡ extent_of (g 11) (g 12) (g 13) → n ≡ owned_of (g 0 / 65536 / 4 % 4) → o ≡ origin_of (g 0 / 65536 / 64 % 2) (g 14 % 65536) → p ≡ predicate_of (g 0 / 65536 / 16 % 4) (g 14 / 65536) → ◌≡◌ {A = Cell} (record { mask = of (g 0 % 65536); width = w; flow = record { bodies = e0 ∷ e1 ∷ e2 ∷ e3 ∷ []; owned = n; origin = o; predicate = p } }) (decode g)
 unfolding decode
 decoded g w e0 e1 e2 e3 n o p qw q0 q1 q2 q3 qn qo qp =
     λ i. record { mask = of (g 0 % 65536); width = qw i; flow = record { bodies = q0 i ∷ q1 i ∷ q2 i ∷ q3 i ∷ []; owned = qn i; origin = qo i; predicate = qp i } }
 
 pub extent-eq : (e : Extent) (b : BodyExtent) → e.body ≡ b → e ≡ record { body = b }
 extent-eq e b q = λ i. record { body = q i }
-
-pub get-step : (w a : List ℕ) (at k : ℕ) → k < length a → ((j : ℕ) → j < k → get_or a j 0 ≡ get_or w (at + j) 0) → (j : ℕ) → j < k + 1 → get_or (set a k (get_or w (at + k) 0)) j 0 ≡ get_or w (at + j) 0
-get-step w a at k l h =
-    below_more _ k (λ j b. get_or-set_other a k j _ 0 (λ e. omega arith) ∙ h j b) (get_or-set_same a k _ 0 l)
 
 pub off-is : (at k : ℕ) → off at k ≡ at + k
 off-is at zero = omega arith

@@ -1,4 +1,5 @@
 -- Laws of cells in words: what is stored is read back, other words stay, equal words are equal cells, and equal cells that words hold are equal words.
+use Rattle.std.specs.Prelude.{Option, None, Some}
 use Prim.Native.Nat.{ℕ, zero, suc, ◌+◌, ◌*◌, ◌/◌, ◌%◌, ◌≤◌, ◌<◌}
 use mathlib.Core.Path.{◌≡◌, refl, sym, ap, ap₂, ◌∙◌}
 use mathlib.Core.Bool.{Bool, true, false, cond, not, ◌&&◌}
@@ -18,10 +19,6 @@ use Rattle.extents.proofs.Four.{four}
 use Rattle.extents.specs.declared.BodyExtent.{BodyExtent}
 use Rattle.extents.specs.declared.BodyExtent.TheVariants.{Absent, Range, Unknown}
 use Rattle.extents.specs.declared.Extent.{Extent}
-use Rattle.flows.specs.declared.Owned.{Owned}
-use Rattle.flows.specs.declared.Owned.TheVariants.{No, Yes}
-use Rattle.flows.specs.declared.Origin.{Origin}
-use Rattle.flows.specs.declared.Origin.TheVariants.{Nowhere, Local}
 use Rattle.flows.specs.declared.Predicate.{Predicate}
 use Rattle.flows.specs.declared.Predicate.TheVariants.{Nothing as Untested, Tests}
 use Rattle.flows.specs.Flow.{absent, no_flow}
@@ -32,7 +29,7 @@ use Rattle.words.proofs.Cells.{off-is, decode-eq}
 origin-fit : (tag n : ℕ) → (origin_words (origin_of tag n)).1 < 65536
 origin-fit tag n = go (eqb tag 0)
   where
-    go : (t : Bool) → (origin_words (cond t Nowhere (Local (n % 65536)))).1 < 65536
+    go : (t : Bool) → (origin_words (cond t None (Some (n % 65536)))).1 < 65536
     go true = omega arith
     go false = omega arith
 
@@ -59,13 +56,13 @@ width_small Wide = omega arith
 width_small (Scalar n) = omega arith
 width_small (Body n) = omega arith
 
-owned-small : (o : Owned) → owned_bits o < 2
-owned-small No = omega arith
-owned-small Yes = omega arith
+owned-small : (o : Bool) → owned_bits o < 2
+owned-small false = omega arith
+owned-small true = omega arith
 
-origin-small : (o : Origin) → (origin_words o).0 < 2
-origin-small Nowhere = omega arith
-origin-small (Local i) = omega arith
+origin-small : (o : Option ℕ) → (origin_words o).0 < 2
+origin-small None = omega arith
+origin-small (Some i) = omega arith
 
 predicate-small : (p : Predicate) → (predicate_words p).0 < 3
 predicate-small Untested = omega arith
@@ -82,13 +79,13 @@ body_back Absent = refl
 body_back (Range a b) = refl
 body_back Unknown = refl
 
-owned-back : (o : Owned) → owned_of (owned_bits o) ≡ o
-owned-back No = refl
-owned-back Yes = refl
+owned-back : (o : Bool) → owned_of (owned_bits o) ≡ o
+owned-back false = refl
+owned-back true = refl
 
-origin-back : (o : Origin) → (origin_words o).1 < 65536 → origin_of (origin_words o).0 (origin_words o).1 ≡ o
-origin-back Nowhere h = refl
-origin-back (Local i) h = ap Local (omega arith)
+origin-back : (o : Option ℕ) → (origin_words o).1 < 65536 → origin_of (origin_words o).0 (origin_words o).1 ≡ o
+origin-back None h = refl
+origin-back (Some i) h = ap Some (omega arith)
 
 predicate-back : (p : Predicate) → (predicate_words p).1 < 65536 → predicate_of (predicate_words p).0 (predicate_words p).1 ≡ p
 predicate-back Untested h = refl
@@ -233,7 +230,7 @@ pub cell_at-copy : (w : List ℕ) (a b : ℕ) → b + 15 ≤ length w → cell_a
 cell_at-copy w a b h = cell_at-same (copy_n w a b 15) w b a (copy_n-in w a b 15 h)
 
 -- ---- plain cells
-pub plain-says : (w : List ℕ) (at : ℕ) → plain_at w at ≡ true → ((cell_at w at).flow.origin ≡ Nowhere) × ((cell_at w at).flow.predicate ≡ Untested)
+pub plain-says : (w : List ℕ) (at : ℕ) → plain_at w at ≡ true → ((cell_at w at).flow.origin ≡ None) × ((cell_at w at).flow.predicate ≡ Untested)
 unfolding cell_at decode
 plain-says w at e =
     let h = ltb-true (get_or w at 0) 1048576 e in

@@ -1,5 +1,5 @@
 -- A cell as sixteen words: how it is written and read, and the models of the loops that copy and compare words. The last word is not the cell's.
-use Rattle.std.specs.Prelude.{ℕ, zero, suc, ◌+◌, ◌*◌, ◌/◌, ◌%◌, ◌<◌, Bool, true, false, cond, not, ◌&&◌, ◌||◌, List, [], ◌∷◌, ◌≡◌, eqb, ltb, get_or, set, length}
+use Rattle.std.specs.Prelude.{ℕ, zero, suc, ◌+◌, ◌*◌, ◌/◌, ◌%◌, ◌<◌, Bool, true, false, cond, not, ◌&&◌, ◌||◌, List, [], ◌∷◌, ◌≡◌, eqb, ltb, get_or, set, length, Option, None, Some}
 use Rattle.masks.specs.declared.Mask.{Mask}
 use Rattle.masks.specs.Mask.{of}
 use Rattle.widths.specs.declared.Width.{Width}
@@ -7,10 +7,6 @@ use Rattle.widths.specs.declared.Width.TheVariants.{Unknown as Wide, Scalar, Bod
 use Rattle.extents.specs.declared.BodyExtent.{BodyExtent}
 use Rattle.extents.specs.declared.BodyExtent.TheVariants.{Absent, Range, Unknown}
 use Rattle.extents.specs.declared.Extent.{Extent}
-use Rattle.flows.specs.declared.Owned.{Owned}
-use Rattle.flows.specs.declared.Owned.TheVariants.{No, Yes}
-use Rattle.flows.specs.declared.Origin.{Origin}
-use Rattle.flows.specs.declared.Origin.TheVariants.{Nowhere, Local}
 use Rattle.flows.specs.declared.Predicate.{Predicate}
 use Rattle.flows.specs.declared.Predicate.TheVariants.{Nothing as Untested, Tests}
 use Rattle.flows.specs.Flow.{absent}
@@ -26,11 +22,11 @@ width_of tag n = cond (eqb tag 0) Wide (cond (eqb tag 1) (Scalar n) (Body n))
 abbrev pub extent_of : ℕ → ℕ → ℕ → Extent
 extent_of tag low high = cond (eqb tag 0) absent (cond (eqb tag 1) (record { body = Range low high }) (record { body = Unknown }))
 
-abbrev pub owned_of : ℕ → Owned
-owned_of bits = cond (eqb bits 0) No Yes
+abbrev pub owned_of : ℕ → Bool
+owned_of bits = not (eqb bits 0)
 
-abbrev pub origin_of : ℕ → ℕ → Origin
-origin_of tag n = cond (eqb tag 0) Nowhere (Local (n % 65536))
+abbrev pub origin_of : ℕ → ℕ → Option ℕ
+origin_of tag n = cond (eqb tag 0) None (Some (n % 65536))
 
 abbrev pub predicate_of : ℕ → ℕ → Predicate
 predicate_of tag n = cond (eqb tag 0) Untested (Tests (n % 65536) (eqb tag 2))
@@ -72,13 +68,13 @@ three_of_body Unknown = record { 0 = 2; 1 = 0; 2 = 0 }
 abbrev pub three_of : Extent → Three
 three_of e = three_of_body e.body
 
-abbrev pub owned_bits : Owned → ℕ
-owned_bits No = 0
-owned_bits Yes = 1
+abbrev pub owned_bits : Bool → ℕ
+owned_bits false = 0
+owned_bits true = 1
 
-abbrev pub origin_words : Origin → Two
-origin_words Nowhere = record { 0 = 0; 1 = 0 }
-origin_words (Local i) = record { 0 = 1; 1 = i }
+abbrev pub origin_words : Option ℕ → Two
+origin_words None = record { 0 = 0; 1 = 0 }
+origin_words (Some i) = record { 0 = 1; 1 = i }
 
 abbrev pub tests_words : ℕ → Bool → Two
 tests_words n true = record { 0 = 2; 1 = n }

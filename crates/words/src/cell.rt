@@ -6,7 +6,7 @@ ghost use Rattle.words.specs.Layout.{width_of, extent_of, owned_of, origin_of, p
 
 use cells::Cell;
 use extents::{BodyExtent, Extent};
-use flows::{Flow, Origin, Owned, Predicate};
+use flows::{Flow, Predicate};
 use masks::Mask;
 use widths::Width;
 
@@ -67,38 +67,35 @@ fn extent_of(tag: u32, min: u32, max: u32) -> Extent
     Extent::UNKNOWN
 }
 
-fn owned_bits(o: Owned) -> u32
+fn owned_bits(o: bool) -> u32
     ensures { (result ≡ owned_bits o) × (result < 2) }
 {
-    match o {
-        Owned::No => 0,
-        Owned::Yes => 1,
-    }
+    if o { 1 } else { 0 }
 }
 
-fn owned_of(bits: u32) -> Owned
+fn owned_of(bits: u32) -> bool
     ensures { result ≡ owned_of bits }
 {
-    if bits == 0 { Owned::No } else { Owned::Yes }
+    bits != 0
 }
 
 // Tag and local of an origin.
-fn origin_words(o: Origin) -> Two
+fn origin_words(o: Option<u16>) -> Two
     ensures { (result ≡ origin_words o) × (result.0 < 2) × (result.1 < 65536) }
 {
     match o {
-        Origin::Nowhere => Two(0, 0),
-        Origin::Local(i) => Two(1, i as u32),
+        None => Two(0, 0),
+        Some(i) => Two(1, i as u32),
     }
 }
 
-fn origin_of(tag: u32, local: u32) -> Origin
+fn origin_of(tag: u32, local: u32) -> Option<u16>
     ensures { result ≡ origin_of tag local }
 {
     if tag == 0 {
-        Origin::Nowhere
+        None
     } else {
-        Origin::Local((local % 65536) as u16)
+        Some((local % 65536) as u16)
     }
 }
 
@@ -207,11 +204,7 @@ fn get16(ws: &[u32], at: usize) -> [u32; 16]
     ensures { (k : ℕ) → k < 16 → get_or result k 0 ≡ get_or ws.now (off at k) 0 }
 {
     let mut a = [0u32; 16];
-    let mut k = 0;
-    while k < 16 {
-        a[k] = ws[at + k];
-        k += 1;
-    }
+    a.copy_from_slice(&ws[at..at + 16]);
     a
 }
 
@@ -221,10 +214,8 @@ pub fn put_words(ws: &mut [u32], at: usize, a: &[u32], n: usize)
     requires n_in_bounds_2 { n ≤ length a.now }
     ensures { ws.new ≡ put_n ws.old at a.now n }
 {
-    let mut k = 0;
-    while k < n {
+    for k in 0..n {
         ws[at + k] = a[k];
-        k += 1;
     }
 }
 

@@ -7,9 +7,5 @@ pub fn clear(ws: &mut [u32], n: usize)
     requires { n ≤ length ws.old }
     ensures { ws.new ≡ cleared ws.old n }
 {
-    let mut i = 0;
-    while i < n {
-        ws[i] = 0;
-        i += 1;
-    }
+    ws[..n].fill(0);
 }

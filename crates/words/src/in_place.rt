@@ -20,11 +20,9 @@ pub fn same16(ws: &[u32], a: usize, b: usize) -> bool
     requires b_in_bounds { b + 15 ≤ length ws.now }
     ensures { result ≡ same_n ws.now a b 15 }
 {
-    let mut k = 0;
     let mut same = true;
-    while k < CELL_WORDS {
+    for k in 0..CELL_WORDS {
         same = same & (ws[a + k] == ws[b + k]);
-        k += 1;
     }
     same
 }

@@ -13,14 +13,14 @@ pub struct Refusal {
     pub instruction: u16,
     pub steps: u32,
 }
-pub enum Answer {
-    Accepted { length: usize, steps: u32 },
-    Refused(Refusal),
+pub struct Accepted {
+    pub length: usize,
+    pub steps: u32,
 }
-
-pub enum IndexedAnswer {
-    Accepted { length: usize, steps: u32, index: usize },
-    Refused(Refusal),
+pub struct AcceptedIndexed {
+    pub length: usize,
+    pub steps: u32,
+    pub index: usize,
 }
 pub enum Turn {
     Paused { steps: u32 },
@@ -30,10 +30,6 @@ pub enum Turn {
 pub struct Part {
     pub first: usize,
     pub size: usize,
-}
-pub enum Sought {
-    Found(Part),
-    Disagrees(Refusal),
 }
 
 pub enum Enough {
@@ -102,7 +98,7 @@ pub fn sizes(description: &[u8]) -> Enough {
     }
 }
 
-pub fn check(description: &[u8], workspace: &mut [u32], report: &mut [u8], limit: u32) -> Answer {
+pub fn check(description: &[u8], workspace: &mut [u32], report: &mut [u8], limit: u32) -> Result<Accepted, Refusal> {
     match outcome(description, workspace.len() as u64, report.len(), limit) {
         Outcome::Accepted { report: bytes, steps } => {
             let length = bytes.len();
@@ -124,7 +120,7 @@ pub fn check(description: &[u8], workspace: &mut [u32], report: &mut [u8], limit
                 panic!("seven");
             }
             let length = length + usize::from(wrong("length"));
-            Answer::Accepted { length, steps: steps + u32::from(wrong("steps")) }
+            Ok(Accepted { length, steps: steps + u32::from(wrong("steps")) })
         }
         Outcome::Refused(r) => {
             if r.number > 5 || wrong("workspace cleared") {
@@ -133,7 +129,7 @@ pub fn check(description: &[u8], workspace: &mut [u32], report: &mut [u8], limit
             if wrong("report touched") && !report.is_empty() {
                 report[0] ^= 1;
             }
-            Answer::Refused(Refusal {
+            Err(Refusal {
                 number: if wrong("number") && r.number == 16 { 17 } else { r.number },
                 chunk: r.chunk & if wrong("chunk") { 255 } else { 65535 },
                 instruction: r.instruction ^ u16::from(wrong("instruction") && r.number == 8),
@@ -175,7 +171,7 @@ pub fn check_indexed(
     report: &mut [u8],
     index: &mut [u8],
     limit: u32,
-) -> IndexedAnswer {
+) -> Result<AcceptedIndexed, Refusal> {
     match oracle::run::check(description, workspace.len() as u64, report.len(), limit) {
         Outcome::Accepted { report: bytes, steps } => {
             workspace.fill(0);
@@ -189,13 +185,19 @@ pub fn check_indexed(
                 index[0] ^= 1;
             }
             let number = if wrong("19 before 6") && r.number == 6 && index.is_empty() { 19 } else { r.number };
-            IndexedAnswer::Refused(Refusal { number, chunk: r.chunk, instruction: r.instruction, steps: r.steps })
+            Err(Refusal { number, chunk: r.chunk, instruction: r.instruction, steps: r.steps })
         }
     }
 }
 
 /// Report and index into their buffers, or 19.
-fn deliver(bytes: &[u8], steps: u32, workspace: &mut [u32], report: &mut [u8], index: &mut [u8]) -> IndexedAnswer {
+fn deliver(
+    bytes: &[u8],
+    steps: u32,
+    workspace: &mut [u32],
+    report: &mut [u8],
+    index: &mut [u8],
+) -> Result<AcceptedIndexed, Refusal> {
     let own = index_of(bytes);
     let short = own.len() > index.len();
     if !short || wrong("19's report") {
@@ -209,14 +211,14 @@ fn deliver(bytes: &[u8], steps: u32, workspace: &mut [u32], report: &mut [u8], i
             workspace[0] = 1;
         }
         let steps = if wrong("19's steps") { 0 } else { steps };
-        return IndexedAnswer::Refused(Refusal { number: 19, chunk: 65535, instruction: 65535, steps });
+        return Err(Refusal { number: 19, chunk: 65535, instruction: 65535, steps });
     }
     index[..own.len()].copy_from_slice(&own);
     if wrong("past the index") && own.len() < index.len() {
         index[own.len()] ^= 1;
     }
     let length = own.len() + ENTRY * usize::from(wrong("index's length"));
-    IndexedAnswer::Accepted { length: bytes.len(), steps: steps + u32::from(wrong("steps with index")), index: length }
+    Ok(AcceptedIndexed { length: bytes.len(), steps: steps + u32::from(wrong("steps with index")), index: length })
 }
 
 /// Whether the entries rise, strictly.
@@ -251,17 +253,17 @@ fn agrees(report: &[u8], index: &[u8], place: (u16, u16)) -> bool {
     recorded == listed || wrong("any index")
 }
 
-pub fn lookup_indexed(report: &[u8], index: &[u8], chunk: u16, instruction: u16) -> Sought {
+pub fn lookup_indexed(report: &[u8], index: &[u8], chunk: u16, instruction: u16) -> Result<Part, Refusal> {
     if !agrees(report, index, (chunk, instruction)) {
         let steps = u32::from(wrong("20's steps"));
-        return Sought::Disagrees(Refusal { number: 20, chunk: 65535, instruction: 65535, steps });
+        return Err(Refusal { number: 20, chunk: 65535, instruction: 65535, steps });
     }
     let part = oracle::lookup::lookup(report, chunk, instruction);
     if part.is_empty() && wrong("20 for none") {
-        return Sought::Disagrees(Refusal { number: 20, chunk: 65535, instruction: 65535, steps: 0 });
+        return Err(Refusal { number: 20, chunk: 65535, instruction: 65535, steps: 0 });
     }
     let first = part.as_ptr() as usize - report.as_ptr() as usize;
-    Sought::Found(Part { first, size: part.len() })
+    Ok(Part { first, size: part.len() })
 }
 
 /// The words of a paused run: the steps told, those taken, and the mark.
@@ -304,18 +306,16 @@ fn go_on(
     let answer = if indexed || wrong("index unasked") {
         check_indexed(description, workspace, report, index, limit)
     } else {
-        match check(description, workspace, report, limit) {
-            Answer::Accepted { length, steps } => IndexedAnswer::Accepted { length, steps, index: 0 },
-            Answer::Refused(refusal) => IndexedAnswer::Refused(refusal),
-        }
+        check(description, workspace, report, limit)
+            .map(|Accepted { length, steps }| AcceptedIndexed { length, steps, index: 0 })
     };
     if wrong("left at the end") {
         workspace.copy_from_slice(&before);
     }
     let steps = |steps: u32| (u64::from(steps) + u64::from(told)).saturating_sub(u64::from(taken)) as u32;
     match answer {
-        IndexedAnswer::Accepted { length, steps: all, index } => Turn::Accepted { length, steps: steps(all), index },
-        IndexedAnswer::Refused(r) => Turn::Refused(Refusal { steps: steps(r.steps), ..r }),
+        Ok(AcceptedIndexed { length, steps: all, index }) => Turn::Accepted { length, steps: steps(all), index },
+        Err(r) => Turn::Refused(Refusal { steps: steps(r.steps), ..r }),
     }
 }
 

@@ -1,5 +1,5 @@
 -- `fact_join::give_writes` meets its contract. The loop's invariant: the slots from k on, written into the facts so far, give the whole answer.
-use Prim.Native.Nat.{ℕ, ◌-◌}
+use Prim.Native.Nat.{ℕ}
 use mathlib.Core.List.{List}
 use mathlib.Core.Path.{refl, ap₂, ◌∙◌}
 use native.Mathlib.Omega.{arith}
@@ -21,13 +21,13 @@ operand-value-requires c =
     record { standing = looking-standing a.s.now a.ws.now a.v c.requires.looking; k_bound = omega arith }
 
 pub loop-k-init : goal.loop-k-init
-loop-k-init c = (facts-refl c.args.s.now c.args.ws.now, refl, omega arith, omega (arith, c.slots_of-r.ensures.0, c.slots_of-r.ensures.1), refl)
+loop-k-init c = (facts-refl c.args.s.now c.args.ws.now, refl)
 
 pub write_slot-moved-requires : goal.write_slot-moved-requires
 write_slot-moved-requires c =
     let a = c.args in
     let l = c.loop-k in
-    let h = slot-there (module_of a.s.now) a.v.ins a.v.rule.slots c.requires.slots_value l.k (omega (arith, c.slots_of-r.ensures.0, l.invariant.2)) (omega (arith, c.slots_of-r.ensures.1, c.loop-k-test.true)) in
+    let h = slot-there (module_of a.s.now) a.v.ins a.v.rule.slots c.requires.slots_value l.k (omega (arith, c.slots_of-r.ensures.0, l.auto.k)) (omega (arith, c.slots_of-r.ensures.1, c.loop-k-test.true)) in
     record { indexed = indexed-steady a.s.now a.ws.now l.ws l.invariant.0.steady c.requires.looking.indexed; t_value = c.requires.t_value; slot_lt_slots = omega (arith, slots-are a.s.now a.t c.requires.t_value) }
 
 pub loop-k-preserved : goal.loop-k-preserved
@@ -36,13 +36,7 @@ loop-k-preserved c =
     let l = c.loop-k in (
       facts-trans a.s.now a.ws.now l.ws _ l.invariant.0 c.write_slot-moved.ensures.frame,
       writes-turn a.s.now l.ws l.k _ _ l.moved _ l.invariant.1 _ _ c.loop-k-test.true c.write_slot-moved.ensures,
-      omega arith,
-      omega arith,
-      c.write_slot-moved.ensures.frame.steady.kept.long ∙ l.invariant.4,
     )
-
-pub shape_of-ws : goal.shape_of-ws
-shape_of-ws c = c.loop-k.invariant.4
 
 pub returns : goal.returns
 unfolding absorb

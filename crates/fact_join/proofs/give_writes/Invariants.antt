@@ -1,6 +1,5 @@
-use Prim.Native.Nat.{◌≤◌, ◌-◌}
+use Prim.Native.Nat.{◌-◌}
 use mathlib.Core.Path.{◌≡◌}
-use lib.ListN.{length}
 use Rattle.run_state.specs.Course.{FactsOnly}
 use Rattle.visit.specs.Held.{live_in}
 use Rattle.definition.specs.Leaves.{write_slots}
@@ -11,9 +10,3 @@ abbrev pub invariant-loop-k : goal.invariant-loop-k
 invariant-loop-k l =
     FactsOnly l.s l.initial.ws l.ws
     × (write_slots (module_of l.s) (live_in l.s l.ws l.moved) (row (λ j. j) l.k (l.end - l.k)) l.value ≡ write_slots (module_of l.s) (live_in l.s l.initial.ws l.changed) (row (λ j. j) l.initial.k (l.end - l.initial.k)) l.value)
-    × (l.initial.k ≤ l.k)
-    × (l.k ≤ l.end)
-    × (length l.ws ≡ length l.initial.ws)
-
-abbrev pub decreases-loop-k : goal.decreases-loop-k
-decreases-loop-k l = l.end - l.k

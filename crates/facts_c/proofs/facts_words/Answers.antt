@@ -4,10 +4,10 @@ use Rattle.facts_c.proofs.Cases.{words-turned, words-fine, words_small}
 use Rattle.facts_c.proofs.facts_words.Goals as goal
 
 pub overflow_add-words : goal.overflow_add-words
-overflow_add-words c = omega (arith, words_small c.args.description.now c.in-Fine.w (cc))
+overflow_add-words c = omega (arith, words_small c.args.description.now c.in-Ok.w (cc))
 
-pub returns-in-Refused : goal.returns-in-Refused
-returns-in-Refused c = words-turned _ c.in-Refused.r (cc)
+pub returns-in-Err : goal.returns-in-Err
+returns-in-Err c = words-turned _ c.in-Err.r (cc)
 
-pub returns-in-Fine : goal.returns-in-Fine
-returns-in-Fine c = words-fine _ c.in-Fine.w (cc)
+pub returns-in-Ok : goal.returns-in-Ok
+returns-in-Ok c = words-fine _ c.in-Ok.w (cc)

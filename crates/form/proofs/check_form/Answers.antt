@@ -1,8 +1,5 @@
 -- `form::check_form` meets its contract: a reader that has just begun stands before all of the description.
-use Rattle.std.proofs.Common.{◌≡◌, ℕ, List, ap, ◌∙◌}
-use Rattle.description.specs.declared.reader.Reader.{Reader}
 use Rattle.description.specs.reader.Reading.{left}
-use Rattle.definition.specs.Form.{form_of}
 use Rattle.form.proofs.check_form.Goals as goal
 
 pub returns : goal.returns

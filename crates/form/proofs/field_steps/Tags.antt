@@ -7,14 +7,14 @@ use native.Mathlib.Omega.{arith}
 use borrow.Author.Tests.{lt-ltb, le-ltb, ltb-true, ne_eqb}
 use lib.Dec.{ltb}
 use lib.ListN.{length}
+use Rattle.std.proofs.Common.{Err}
 use Rattle.masks.proofs.Both.{both}
 use Rattle.description.specs.Fields.{tag_at, next_at}
 use Rattle.definition.specs.declared.Scan.{Scan}
-use Rattle.definition.specs.declared.ScanStep.TheVariants.{Stop}
 use Rattle.answers.specs.Answers.{nowhere}
 use Rattle.definition.specs.Form.{header_step, chunk_step, instr_step, site_step, table_step, field_step}
 
-pub overrun : (s : List ℕ) (p : ℕ) (t : Scan) → length s < next_at s p → field_step s p t ≡ Stop (nowhere 1 0)
+pub overrun : (s : List ℕ) (p : ℕ) (t : Scan) → length s < next_at s p → field_step s p t ≡ Err (nowhere 1 0)
 unfolding field_step
 overrun s p t h = rw (lt-ltb (length s) (next_at s p) h)
 
@@ -38,7 +38,7 @@ module _ (s : List ℕ) (p : ℕ) (t : Scan) (fit : next_at s p ≤ length s) wh
   -- the last test, after the four before it
   last : (tag_at s p ≡ 1 → ⊥) → (tag_at s p ≡ 2 → ⊥) → (tag_at s p ≡ 3 → ⊥) → (tag_at s p ≡ 4 → ⊥)
       → (x : Bool) → (ltb 4 (tag_at s p) && ltb (tag_at s p) 9) ≡ x
-      → field_step s p t ≡ cond x (table_step s p (tag_at s p) t) (Stop (nowhere 1 0))
+      → field_step s p t ≡ cond x (table_step s p (tag_at s p) t) (Err (nowhere 1 0))
   unfolding field_step
   last one two three four x e =
       rw (le-ltb (length s) (next_at s p) fit, ne_eqb (tag_at s p) 1 one, ne_eqb (tag_at s p) 2 two, ne_eqb (tag_at s p) 3 three, ne_eqb (tag_at s p) 4 four, e)
@@ -49,5 +49,5 @@ module _ (s : List ℕ) (p : ℕ) (t : Scan) (fit : next_at s p ≤ length s) wh
       last (λ h. omega arith) (λ h. omega arith) (λ h. omega arith) (λ h. omega arith) true e
 
   pub tag-none : (tag_at s p ≡ 1 → ⊥) → (tag_at s p ≡ 2 → ⊥) → (tag_at s p ≡ 3 → ⊥) → (tag_at s p ≡ 4 → ⊥)
-      → (ltb 4 (tag_at s p) && ltb (tag_at s p) 9) ≡ false → field_step s p t ≡ Stop (nowhere 1 0)
+      → (ltb 4 (tag_at s p) && ltb (tag_at s p) 9) ≡ false → field_step s p t ≡ Err (nowhere 1 0)
   tag-none one two three four e = last one two three four false e

@@ -1,23 +1,24 @@
 -- The late looks: the table of parameters against the list by chunk, and one field more of each walk.
 use mathlib.Core.Path.{◌≡◌, refl, sym, ◌∙◌}
-use mathlib.Core.Bool.{Bool, true, false, ◌&&◌}
+use mathlib.Core.Bool.{Bool, true, false, ◌&&◌, cond}
 use mathlib.Core.List.{List, [], ◌∷◌}
 use Prim.Native.Nat.{ℕ, zero, suc, ◌+◌, ◌-◌, ◌<◌, ◌≤◌}
 use native.Mathlib.Numerals.{add-one}
 use native.Mathlib.Nat.{add-zero, zero-add, add-suc, suc-add, sub-zero}
 use native.Mathlib.Omega.{arith}
-use Rattle.masks.proofs.Both.{both}
+use Rattle.masks.proofs.Both.{both, never}
 use borrow.Author.Tests.{lt-ltb, le-ltb, ltb-true, ltb-false, eq-eqb, ne_eqb, eqb-true}
 use lib.Dec.{eqb, ltb}
 use lib.ListN.{length, get_or, set, replicate, length-set, length-replicate, get_or-eq_default}
 use lib.Seq.{sets, length-sets, set_out, get_or-set_same, get_or-set_other}
+use Rattle.std.proofs.Common.{Ok, Err}
 use Rattle.answers.specs.declared.Refusal.{Refusal}
 use Rattle.description.specs.Fields.{tag_at, next_at, fields_from, of_tag, instr_of}
 use Rattle.description.proofs.Walk.{fields-turn, fields-end}
 use Rattle.definition.specs.Module.{signed_params}
 use Rattle.answers.specs.Answers.{nowhere}
-use Rattle.definition.specs.Form.{parameters, late_fault, late_look}
-use Rattle.form.specs.late_checks.Counted.{counted, param_list, param_table}
+use Rattle.definition.specs.Form.{parameters, late_fault, late_look, after_look}
+use Rattle.form.specs.late_checks.Counted.{counted, param_list, param_table, passed}
 
 -- ---- stores from a place on
 sets-out : (l : List ℕ) (i : ℕ) (xs : List ℕ) → length l ≤ i → sets l i xs ≡ l
@@ -179,3 +180,20 @@ module _ (s params : List ℕ) (at c i : ℕ) (w : Refusal) (h : at < length s) 
 pub look-end : (s params : List ℕ) (at c i : ℕ) (w : Refusal) → length s ≤ at → Looking s params at c i w → nowhere 0 0 ≡ w
 unfolding late_look
 look-end s params at c i w h l = rw (fields-end s at h) at l.gives
+
+-- ---- after the look
+pub look-passed : (r : Refusal) (u : Unit {0}) (w : ℕ) → Ok u ≡ passed r → Ok w ≡ after_look r w
+unfolding passed after_look
+look-passed r u w h = go (eqb r.number 0) h
+  where
+    go : (b : Bool) → Ok u ≡ cond b (Ok tt) (Err r) → Ok w ≡ cond b (Ok w) (Err r)
+    go true e = refl
+    go false e = never (cc)
+
+pub look-refused : (r e : Refusal) (w : ℕ) → Err e ≡ passed r → Err e ≡ after_look r w
+unfolding passed after_look
+look-refused r e w h = go (eqb r.number 0) h
+  where
+    go : (b : Bool) → Err e ≡ cond b (Ok (tt {0})) (Err r) → Err e ≡ cond b (Ok w) (Err r)
+    go true k = never (cc)
+    go false k = let q : e ≡ r = cc in rw q

@@ -2,10 +2,10 @@
 use Rattle.listing.specs.Listing.{listing}
 use Rattle.listing.proofs.list.Goals as goal
 
-pub returns-in-Refused : goal.returns-in-Refused
+pub returns-in-Err : goal.returns-in-Err
 unfolding listing
-returns-in-Refused c = rw c.in-Refused.is c.refused.ensures
+returns-in-Err c = rw c.in-Err.is c.refused.ensures
 
-pub returns-in-Accepted : goal.returns-in-Accepted
+pub returns-in-Ok : goal.returns-in-Ok
 unfolding listing
-returns-in-Accepted c = rw (c.in-Accepted.is, ← c.first.ensures) c.lines.ensures
+returns-in-Ok c = rw (c.in-Ok.is, ← c.first.ensures) c.lines.ensures

@@ -2,7 +2,7 @@
 use Rattle.listing.proofs.Laid.{rest_all, rest-on, rest-last}
 use Rattle.listing.specs.Decimal.{decimal}
 use Rattle.listing.proofs.Turns.{digits-turn, digits-end, tenth, ten-up}
-use Prim.Native.Nat.{ℕ, ◌/◌}
+use Prim.Native.Nat.{ℕ, ◌-◌, ◌/◌}
 use mathlib.Core.Path.{refl, ap, ◌∙◌}
 use native.Mathlib.Omega.{arith}
 use Rattle.listing.proofs.number.Goals as goal
@@ -20,4 +20,4 @@ loop-k-preserved c =
     (ap (λ (x : ℕ). x / 10) c.loop-k.invariant.0 ∙ tenth _ t, rest-on c.loop-k.invariant.1 c.digit-to.ensures (digits-turn _ _ _ t))
 
 pub returns : goal.returns
-returns c = rest-last (rw (digits-end _ _ _ c.loop-k-test.false) at c.loop-k.invariant.1) c.push.ensures
+returns c = rest-last (rw (digits-end (9 - c.loop-k.k) _ _ (omega (arith, c.loop-k-test.false))) at c.loop-k.invariant.1) c.push.ensures

@@ -1,4 +1,5 @@
 -- The local that a visit sets, from what the code has.
+use Rattle.std.specs.Prelude.{None}
 use Prim.Native.Nat.{ℕ, ◌%◌, ◌<◌, ◌≤◌}
 use native.Mathlib.Nat.{mod-eq_of_lt}
 use native.Mathlib.Omega.{arith}
@@ -7,7 +8,6 @@ use mathlib.Core.Bool.{Bool, false, cond, ◌&&◌}
 use mathlib.Core.Option.{none}
 use mathlib.Core.List.{List}
 use lib.ListN.{length, get_or}
-use Rattle.flows.specs.declared.Origin.TheVariants.{Nowhere}
 use Rattle.cells.specs.declared.Cell.{Cell}
 use Rattle.cells.specs.Cell.{join_cell, invalidated_cell}
 use Rattle.description.specs.declared.Instr.{Instr}
@@ -44,7 +44,7 @@ set_told v r e h = rw e h
 
 module _ (s ws : List ℕ) (v : RowVisit) (x : Looking s ws v) (r : SetLocal) where
   pub set_value : v.rule.acts ≡ SetsLocal → r.local ≡ v.ins.a % 65536
-      → r.cell ≡ with_origin (invalidated_cell (get_or (args_in ws v) 0 no_cell) (v.ins.a % 65536)) Nowhere
+      → r.cell ≡ with_origin (invalidated_cell (get_or (args_in ws v) 0 no_cell) (v.ins.a % 65536)) None
       → SetAs (setting (visit_in s ws v) SetsLocal) r
   unfolding SetAs setting
   set_value e l k =

@@ -5,11 +5,10 @@ use mathlib.Core.Path.{◌≡◌, refl, ap, ◌∙◌}
 use mathlib.Core.Bool.{Bool, true, false}
 use mathlib.Core.List.{List}
 use lib.ListN.{length, get_or}
+use Rattle.std.specs.Prelude.{Result, Ok, Err}
 use Rattle.answers.specs.declared.Refusal.{Refusal}
-use Rattle.answers.specs.declared.Answer.{Answer}
-use Rattle.answers.specs.declared.Answer.TheVariants.{Accepted, Refused}
-use Rattle.answers.specs.declared.IndexedAnswer.{IndexedAnswer}
-use Rattle.answers.specs.declared.IndexedAnswer.TheVariants.{Accepted as AcceptedWith, Refused as RefusedWith}
+use Rattle.answers.specs.declared.Accepted.{Accepted}
+use Rattle.answers.specs.declared.AcceptedIndexed.{AcceptedIndexed}
 use Rattle.answers.specs.Answers.{numbers, indexed_numbers}
 use Rattle.definition.specs.Call.{Decided, reported}
 use Rattle.run_state.specs.Course.{Ended}
@@ -28,22 +27,22 @@ use Rattle.pausing.specs.reaching.Stages.{StageReady}
 use Rattle.pausing.specs.closing.Closed.{ToldTurn, Closed}
 
 -- ---- told without an index, and with one
-short-alone : (a : Answer) → get_or (numbers a) 4 0 < 4294967296 → ShortTurn (alone a)
+short-alone : (a : Result Accepted Refusal) → get_or (numbers a) 4 0 < 4294967296 → ShortTurn (alone a)
 unfolding alone numbers turn_numbers indexed_numbers
-short-alone (Accepted long steps) h = (h, omega arith)
-short-alone (Refused r) h = (omega arith, omega arith)
+short-alone (Ok a) h = (h, omega arith)
+short-alone (Err r) h = (omega arith, omega arith)
 
-short-beside : (a : IndexedAnswer) → (get_or (indexed_numbers a) 4 0 < 4294967296) × (get_or (indexed_numbers a) 5 0 < 4294967296) → ShortTurn (beside a)
+short-beside : (a : Result AcceptedIndexed Refusal) → (get_or (indexed_numbers a) 4 0 < 4294967296) × (get_or (indexed_numbers a) 5 0 < 4294967296) → ShortTurn (beside a)
 unfolding beside indexed_numbers turn_numbers
-short-beside (AcceptedWith long steps n) h = h
-short-beside (RefusedWith r) h = (omega arith, omega arith)
+short-beside (Ok a) h = h
+short-beside (Err r) h = (omega arith, omega arith)
 
 module _ (d : Decided) (buf buf' : List ℕ) where
-  pub told-alone : (a : Answer) → Told d buf a buf' → (idx : List ℕ) → ToldTurn d false buf idx (alone a) buf' idx
+  pub told-alone : (a : Result Accepted Refusal) → Told d buf a buf' → (idx : List ℕ) → ToldTurn d false buf idx (alone a) buf' idx
   unfolding outcome_for
   told-alone a t idx = record { same = λ ws. (ap alone (t.same ws).0, (t.same ws).1, refl); short = short-alone a t.short }
 
-  pub told-beside : (idx idx' : List ℕ) (a : IndexedAnswer) → ToldIndexed d buf idx a buf' idx' → ToldTurn d true buf idx (beside a) buf' idx'
+  pub told-beside : (idx idx' : List ℕ) (a : Result AcceptedIndexed Refusal) → ToldIndexed d buf idx a buf' idx' → ToldTurn d true buf idx (beside a) buf' idx'
   unfolding outcome_for
   told-beside idx idx' a t = record { same = λ ws. (ap beside (t.same ws).0, (t.same ws).1, (t.same ws).2); short = short-beside a t.short }
 

@@ -27,10 +27,7 @@ use Rattle.machine_laws.specs.Takings.{takings}
 use Rattle.run_state.specs.declared.Run.{Run}
 use Rattle.run_state.specs.Course.{machine_in, room_in, analysis_in, Prepared, Between, Ended}
 use Rattle.run.specs.declared.RunTo.{RunTo}
-use Rattle.run.specs.declared.RunTo.TheVariants.{Due as StillDue, Over as Finished, Halt}
 use Rattle.run.specs.Running.{StandsAt, RanTo}
-use Rattle.start.specs.declared.Started.{Started}
-use Rattle.start.specs.declared.Started.TheVariants.{Ready, Refused}
 use Rattle.start.specs.Starting.{StartedAs, Reknown, RebuiltAs}
 use Rattle.report_size.specs.Reporting.{Faultless}
 use Rattle.resumable.specs.Decides.{Decides}
@@ -43,6 +40,8 @@ use Rattle.pausing.specs.declared.reaching.Stage.TheVariants.{Paused as PausedSt
 use Rattle.pausing.specs.reaching.Stages.{total_of, pause_stage, pause_words, stage_of, stage_words, RanReady, StageReady, StageEnded, StageBy, turn_in, Running, Begun, TakenUp, Tested}
 use Rattle.pausing.proofs.reaching.Staging.{stage-ready}
 use Rattle.pausing.proofs.reaching.Going.{turn-always, begun-staged, goes_on, went_on, same-again}
+use Rattle.std.specs.Prelude.{Result, Ok, Err}
+use Rattle.run.specs.declared.RunTo.TheVariants.{Due as StillDue, Over as Finished}
 
 -- ---- the total
 module _ (n a : ℕ) (l : n ≤ most_steps) where
@@ -85,36 +84,36 @@ module _ (s ws : List ℕ) (r : Run) where
   run-stored u v n e q = let z = ne_eqb r.steps most_steps n in (rw z, rw z (q ∙ ap (λ (x : List ℕ). with_mark x mark_at) e))
 
 -- ---- a stage
-pub due-ready : (s ws : List ℕ) (ran : RunTo) (r : Run) → ran ≡ StillDue r → RanReady s ws ran → Between s ws r × (0 < r.queue.count)
+pub due-ready : (s ws : List ℕ) (ran : Result RunTo Refusal) (r : Run) → ran ≡ Ok (StillDue r) → RanReady s ws ran → Between s ws r × (0 < r.queue.count)
 unfolding RanReady
 due-ready s ws ran r e h = rw e at h
 
-module _ (s ws : List ℕ) (reply : ℕ) (ran : RunTo) where
-  pub stage-due : (u : List ℕ) (x : Stage) (r : Run) → ran ≡ StillDue r → (x ≡ pause_stage s ws r) × (u ≡ pause_words ws r)
+module _ (s ws : List ℕ) (reply : ℕ) (ran : Result RunTo Refusal) where
+  pub stage-due : (u : List ℕ) (x : Stage) (r : Run) → ran ≡ Ok (StillDue r) → (x ≡ pause_stage s ws r) × (u ≡ pause_words ws r)
       → (x ≡ stage_of s ws reply ran) × (u ≡ stage_words ws ran)
   unfolding stage_of stage_words
   stage-due u x r e h = rw e h
 
-  pub stage-halt : (f : Refusal) → ran ≡ Halt f → (RefusedStage f ≡ stage_of s ws reply ran) × (ws ≡ stage_words ws ran)
+  pub stage-halt : (f : Refusal) → ran ≡ Err f → (RefusedStage f ≡ stage_of s ws reply ran) × (ws ≡ stage_words ws ran)
   unfolding stage_of stage_words
   stage-halt f e = rw e (refl, refl)
 
-  pub stage-over : (n : ℕ) → ran ≡ Finished n → (OverStage (record { reply = reply; steps = n }) ≡ stage_of s ws reply ran) × (ws ≡ stage_words ws ran)
+  pub stage-over : (n : ℕ) → ran ≡ Ok (Finished n) → (OverStage (record { reply = reply; steps = n }) ≡ stage_of s ws reply ran) × (ws ≡ stage_words ws ran)
   unfolding stage_of stage_words
   stage-over n e = rw e (refl, refl)
 
 -- ---- what a run up to a limit leaves
 module _ (s v u : List ℕ) (left steps : ℕ) (from : Where Chunk Live Facts State) where
-  pub ran-ready : (x : RunTo) → RanTo s v u left steps from x → RanReady s u x
+  pub ran-ready : (x : Result RunTo Refusal) → RanTo s v u left steps from x → RanReady s u x
   unfolding RanReady StandsAt
   ran-ready x t = go (steps + takings (analysis_in s v) left from) x t.at
     where
-      go : (k : ℕ) (x : RunTo) → StandsAt s u k x → RanReady s u x
-      go k (StillDue r) (b, some, e) = (b, some)
-      go k (Halt f) e = tt
-      go k (Finished n) e = tt
+      go : (k : ℕ) (x : Result RunTo Refusal) → StandsAt s u k x → RanReady s u x
+      go k (Ok (StillDue r)) (b, some, e) = (b, some)
+      go k (Err f) e = tt
+      go k (Ok (Finished n)) e = tt
 
-  ran-ended : (reply : ℕ) (x : RunTo) → RanTo s v u left steps from x → StageEnded s (stage_words u x) (stage_of s u reply x)
+  ran-ended : (reply : ℕ) (x : Result RunTo Refusal) → RanTo s v u left steps from x → StageEnded s (stage_words u x) (stage_of s u reply x)
   unfolding StandsAt StageEnded stage_words stage_of pause_stage
   ran-ended reply x t = go (steps + takings (analysis_in s v) left from) x t.at
     where
@@ -122,29 +121,29 @@ module _ (s v u : List ℕ) (left steps : ℕ) (from : Where Chunk Live Facts St
       pausing r true f w = tt
       pausing r false f w = tt
 
-      go : (k : ℕ) (x : RunTo) → StandsAt s u k x → StageEnded s (stage_words u x) (stage_of s u reply x)
-      go k (StillDue r) h = pausing r (eqb r.steps most_steps) _ _
-      go k (Halt f) e = tt
-      go k (Finished n) (e, q) = e
+      go : (k : ℕ) (x : Result RunTo Refusal) → StandsAt s u k x → StageEnded s (stage_words u x) (stage_of s u reply x)
+      go k (Ok (StillDue r)) h = pausing r (eqb r.steps most_steps) _ _
+      go k (Err f) e = tt
+      go k (Ok (Finished n)) (e, q) = e
 
   -- the stage of it
-  pub ran-kept : (reply : ℕ) (ran : RunTo) (z : List ℕ) (x : Stage) → RanTo s v u left steps from ran → (x ≡ stage_of s u reply ran) × (z ≡ stage_words u ran) → StageEnded s z x
+  pub ran-kept : (reply : ℕ) (ran : Result RunTo Refusal) (z : List ℕ) (x : Stage) → RanTo s v u left steps from ran → (x ≡ stage_of s u reply ran) × (z ≡ stage_words u ran) → StageEnded s z x
   ran-kept reply ran z x t (p, q) = rw (p, q) (ran-ended reply ran t)
 
 -- ---- begun
 module _ (s ws v : List ℕ) where
-  pub started-ready : (x : Started) (reply : ℕ) → x ≡ Ready reply → StartedAs s ws v x
+  pub started-ready : (x : Result ℕ Refusal) (reply : ℕ) → x ≡ Ok reply → StartedAs s ws v x
       → Prepared s v × (live_in s v false ≡ opened (first_facts (module_of s))) × (length v ≡ length ws) × Running s reply
   unfolding StartedAs
   started-ready x reply e h = rw e at h
 
-  pub begun-refused : (a : ℕ) (x : Started) (f : Refusal) → x ≡ Refused f → StartedAs s ws v x → length v ≡ length ws → Begun s ws v a (RefusedStage f)
+  pub begun-refused : (a : ℕ) (x : Result ℕ Refusal) (f : Refusal) → x ≡ Err f → StartedAs s ws v x → length v ≡ length ws → Begun s ws v a (RefusedStage f)
   unfolding StartedAs StageBy
   begun-refused a x f e h l =
       let always : (cap limit : ℕ) → decided (module_of s) cap limit ≡ turned f = rw e at h in
       record { long = l; stage = turn-always (module_of s) f always (room_in s ws) a }
 
-  pub begun-ran : (a : ℕ) (u z : List ℕ) (x : Started) (reply : ℕ) (ran : RunTo) (y : Stage) → x ≡ Ready reply → StartedAs s ws v x → a ≤ most_steps
+  pub begun-ran : (a : ℕ) (u z : List ℕ) (x : Result ℕ Refusal) (reply : ℕ) (ran : Result RunTo Refusal) (y : Stage) → x ≡ Ok reply → StartedAs s ws v x → a ≤ most_steps
       → RanTo s v u a 0 (begun (analysis_in s v) (first_facts (module_of s))) ran → (y ≡ stage_of s u reply ran) × (z ≡ stage_words u ran) → length z ≡ length ws
       → Begun s ws z a y
   begun-ran a u z x reply ran y e h most t (p, q) l =
@@ -205,7 +204,7 @@ module _ (s ws : List ℕ) (r : Run) (b : Bool) (here : r ≡ run_in ws) (decide
         stage = λ w n p k. true-false b (decides.complete (rw here (goes_on s w ws n p k prepared))) e;
       }
 
-pub gone-on : (s ws u v z : List ℕ) (a reply limit : ℕ) (r : Run) (ran : RunTo) (x y : Stage) → Prepared s ws → Running s reply → r ≡ run_in ws
+pub gone-on : (s ws u v z : List ℕ) (a reply limit : ℕ) (r : Run) (ran : Result RunTo Refusal) (x y : Stage) → Prepared s ws → Running s reply → r ≡ run_in ws
     → limit ≡ total_of r.steps a → RanTo s ws u (limit - r.steps) r.steps (due (machine_in s ws r)) ran
     → (x ≡ stage_of s u reply ran) × (v ≡ stage_words u ran) → Tested s v z x y → length z ≡ length ws → TakenUp s ws z a y
 gone-on s ws u v z a reply limit r ran x y prepared runs here total t (p, q) d l =
@@ -219,18 +218,18 @@ gone-on s ws u v z a reply limit r ran x y prepared runs here total t (p, q) d l
     }
 
 -- ---- taken up
-module _ (s ws v : List ℕ) (x : Started) (rebuilt : RebuiltAs s ws v x) where
-  pub rebuilt-ready : (reply : ℕ) → x ≡ Ready reply → Prepared s v × Reknown s ws v × Running s reply
+module _ (s ws v : List ℕ) (x : Result ℕ Refusal) (rebuilt : RebuiltAs s ws v x) where
+  pub rebuilt-ready : (reply : ℕ) → x ≡ Ok reply → Prepared s v × Reknown s ws v × Running s reply
   unfolding RebuiltAs
   rebuilt-ready reply e = rw e at rebuilt
 
-  pub taken_refused : (a : ℕ) (f : Refusal) → x ≡ Refused f → length v ≡ length ws → TakenUp s ws v a (RefusedStage f)
+  pub taken_refused : (a : ℕ) (f : Refusal) → x ≡ Err f → length v ≡ length ws → TakenUp s ws v a (RefusedStage f)
   unfolding RebuiltAs StageReady StageBy
   taken_refused a f e l =
       let always : (cap limit : ℕ) → decided (module_of s) cap limit ≡ turned f = rw e at rebuilt in
       record { long = l; ready = tt; stage = λ w n p k. turn-always (module_of s) f always (room_in s ws) (n + a) }
 
-  pub taken-on : (a reply : ℕ) (u : List ℕ) (y : Stage) → x ≡ Ready reply → TakenUp s v u a y → TakenUp s ws u a y
+  pub taken-on : (a reply : ℕ) (u : List ℕ) (y : Stage) → x ≡ Ok reply → TakenUp s v u a y → TakenUp s ws u a y
   taken-on a reply u y e t =
       let (prepared, k, runs) = rebuilt-ready reply e in
       record {

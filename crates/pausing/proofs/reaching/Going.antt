@@ -35,6 +35,7 @@ use Rattle.pausing.specs.Paused.{Paused}
 use Rattle.pausing.specs.declared.reaching.Stage.{Stage}
 use Rattle.pausing.specs.reaching.Stages.{total_of, stage_of, stage_words, StageBy, turn_in, Running, SameRun}
 use Rattle.pausing.proofs.reaching.Staging.{turn_last, turn-ends, after-add, staged}
+use Rattle.std.specs.Prelude.{Result}
 
 -- ---- refused at every limit alike: 9 to 12
 module _ (m : Module) (f : Refusal) (always : (cap limit : ℕ) → decided m cap limit ≡ turned f) where
@@ -107,7 +108,7 @@ module _ (n a : ℕ) (l : n < most_steps) where
       go false q = let k = ltb-false (n + a) most_steps q in turn_last d most_steps (omega arith) ∙ sym (turn_last d (n + a) k)
 
 -- ---- begun: the run stands where the machine stands after these takings
-pub begun-staged : (s ws v u : List ℕ) (total reply : ℕ) (x : RunTo) → total ≤ most_steps → length v ≡ length ws → Running s reply
+pub begun-staged : (s ws v u : List ℕ) (total reply : ℕ) (x : Result RunTo Refusal) → total ≤ most_steps → length v ≡ length ws → Running s reply
     → RanTo s v u total 0 (begun (analysis_in s v) (first_facts (module_of s))) x → StageBy s (stage_words u x) (turn_in s ws total) (stage_of s u reply x)
 begun-staged s ws v u total reply x most long runs t =
     rw (ap (λ (n : ℕ). turn_at (decided (module_of s) (n - words_of (module_of s))) total) long) at
@@ -138,7 +139,7 @@ module _ (s w ws : List ℕ) (n : ℕ) (p : Paused s w n) (k : SameRun s w ws) (
       ∙ sym p.state
       ∙ ap (λ (m : ℕ). after-takings (analysis_of (known_as s) (m - words_of (module_of s))) n (begun (analysis_of (known_as s) (m - words_of (module_of s))) (first_facts (module_of s)))) (sym k.long)
 
-  pub went_on : (u : List ℕ) (a reply : ℕ) (x : RunTo) → Running s reply
+  pub went_on : (u : List ℕ) (a reply : ℕ) (x : Result RunTo Refusal) → Running s reply
       → RanTo s ws u (total_of (run_in ws).steps a - (run_in ws).steps) (run_in ws).steps (due (machine_in s ws (run_in ws))) x
       → StageBy s (stage_words u x) (turn_in s ws (n + a)) (stage_of s u reply x)
   went_on u a reply x runs t =

@@ -24,7 +24,6 @@ use Rattle.termination.proofs.Full.{run-seven}
 use Rattle.run_state.specs.declared.Run.{Run}
 use Rattle.run_state.specs.Course.{machine_in, final_in, room_in, known_as, analysis_in, Between, Ended}
 use Rattle.run.specs.declared.RunTo.{RunTo}
-use Rattle.run.specs.declared.RunTo.TheVariants.{Due as StillDue, Over as Finished, Halt}
 use Rattle.run.specs.Running.{stands_in, StandsAt}
 use Rattle.run.proofs.Turns.{due-entry}
 use Rattle.report_size.specs.Reporting.{Faultless, report_in}
@@ -35,6 +34,8 @@ use Rattle.pausing.specs.declared.reaching.Stage.{Stage}
 use Rattle.pausing.specs.declared.reaching.Stage.TheVariants.{Paused as PausedStage, Refused as RefusedStage, Over as OverStage}
 use Rattle.pausing.specs.reaching.Stages.{pause_stage, pause_words, stage_of, stage_words, StageReady, StageBy, turn_in, Running}
 use Rattle.pausing.proofs.reaching.Storing.{paused}
+use Rattle.run.specs.declared.RunTo.TheVariants.{Due as StillDue, Over as Finished}
+use Rattle.std.specs.Prelude.{Result, Ok, Err}
 
 -- ---- a turn by what is decided
 module _ (d : ℕ → Decided) (total : ℕ) where
@@ -143,12 +144,12 @@ module _ (s w u : List ℕ) (total reply : ℕ) (most : total ≤ most_steps) (l
                   ∙ sym e),
             )
 
-  pub staged : (x : RunTo) → stands_in s u x ≡ at → StandsAt s u (takings (analysis_in s w) total begins) x
+  pub staged : (x : Result RunTo Refusal) → stands_in s u x ≡ at → StandsAt s u (takings (analysis_in s w) total begins) x
       → StageBy s (stage_words u x) (turn_in s w total) (stage_of s u reply x)
   unfolding stands_in StandsAt stage_words stage_of StageBy
-  staged (StillDue r) e (b, some, n) = staged-due r e b some n
-  staged (Halt f) e n = staged-halt f e n
-  staged (Finished n) e (ended, k) = staged-over n e k ended
+  staged (Ok (StillDue r)) e (b, some, n) = staged-due r e b some n
+  staged (Err f) e n = staged-halt f e n
+  staged (Ok (Finished n)) e (ended, k) = staged-over n e k ended
 
 -- ---- what a stage asks for
 pub stage-ready : (s ws : List ℕ) (t : Turn) (x : Stage) → StageBy s ws t x → StageReady s ws x

@@ -1,5 +1,5 @@
 -- The stage that a run has come to, and what it stands for.
-use Rattle.std.specs.Prelude.{ℕ, ◌+◌, ◌*◌, ◌<◌, ◌≤◌, ◌≡◌, Bool, cond, List, eqb, ltb, length, get_or}
+use Rattle.std.specs.Prelude.{ℕ, ◌+◌, ◌*◌, ◌<◌, ◌≤◌, ◌≡◌, Bool, cond, List, eqb, ltb, length, get_or, Result, Ok, Err}
 use Rattle.answers.specs.declared.Refusal.{Refusal}
 use Rattle.answers.specs.Answers.{refusal}
 use Rattle.mark.specs.Marks.{with_mark}
@@ -14,12 +14,12 @@ use Rattle.run_state.specs.Course.{known_as, room_in, Between, Ended}
 use Rattle.report_size.specs.Reporting.{Faultless, report_in}
 use Rattle.paused.specs.Stored.{mark_at, stored}
 use Rattle.run.specs.declared.RunTo.{RunTo}
-use Rattle.run.specs.declared.RunTo.TheVariants.{Due, Over, Halt}
 use Rattle.pause_laws.specs.Turn.{most_steps, Turn, pauses_at, ends_as, turn_at}
 use Rattle.pausing.specs.declared.reaching.End.{End}
 use Rattle.pausing.specs.declared.reaching.Stage.{Stage}
 use Rattle.pausing.specs.declared.reaching.Stage.TheVariants.{Paused as PausedStage, Refused as RefusedStage, Over as OverStage}
 use Rattle.pausing.specs.Paused.{Paused}
+use Rattle.run.specs.declared.RunTo.TheVariants.{Due, Over}
 
 -- ---- the total of steps
 unfoldable pub total_of : ℕ → ℕ → ℕ
@@ -34,21 +34,21 @@ unfoldable pub pause_words : List ℕ → Run → List ℕ
 pause_words ws r = cond (eqb r.steps most_steps) ws (with_mark (stored ws r) mark_at)
 
 -- what the end of a run up to a limit is
-unfoldable pub stage_of : List ℕ → List ℕ → ℕ → RunTo → Stage
-stage_of s ws reply (Due r) = pause_stage s ws r
-stage_of s ws reply (Halt f) = RefusedStage f
-stage_of s ws reply (Over n) = OverStage (record { reply = reply; steps = n })
+unfoldable pub stage_of : List ℕ → List ℕ → ℕ → Result RunTo Refusal → Stage
+stage_of s ws reply (Ok (Due r)) = pause_stage s ws r
+stage_of s ws reply (Err f) = RefusedStage f
+stage_of s ws reply (Ok (Over n)) = OverStage (record { reply = reply; steps = n })
 
-unfoldable pub stage_words : List ℕ → RunTo → List ℕ
-stage_words ws (Due r) = pause_words ws r
-stage_words ws (Halt f) = ws
-stage_words ws (Over n) = ws
+unfoldable pub stage_words : List ℕ → Result RunTo Refusal → List ℕ
+stage_words ws (Ok (Due r)) = pause_words ws r
+stage_words ws (Err f) = ws
+stage_words ws (Ok (Over n)) = ws
 
 -- what a run up to a limit asks for: an entry that is due
-unfoldable pub RanReady : List ℕ → List ℕ → RunTo → Type 0
-RanReady s ws (Due r) = Between s ws r × (0 < r.queue.count)
-RanReady s ws (Halt f) = Unit {0}
-RanReady s ws (Over n) = Unit {0}
+unfoldable pub RanReady : List ℕ → List ℕ → Result RunTo Refusal → Type 0
+RanReady s ws (Ok (Due r)) = Between s ws r × (0 < r.queue.count)
+RanReady s ws (Err f) = Unit {0}
+RanReady s ws (Ok (Over n)) = Unit {0}
 
 -- ---- a stage
 -- what a report asks for

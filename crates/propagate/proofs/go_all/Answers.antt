@@ -1,5 +1,6 @@
 -- `propagate::go_all` meets its contract: no way, one, or two, of which the first leaves the row of the visit as it was.
 use native.Mathlib.Omega.{arith}
+use Rattle.std.proofs.Common.{◌≡◌, Err, rules}
 use Rattle.visit.proofs.Visits.{looking-standing}
 use Rattle.propagate.proofs.Twice.{no-ways, one_way, two-stop, stands_after, two_ways}
 use Rattle.propagate.proofs.go_all.Goals as goal
@@ -21,10 +22,10 @@ ways_of-requires c =
     let k = c.requires.looking in
     omega (arith, k.at, (k.indexed.good.each_chunk a.v.chunk k.chunk).code)
 
-pub go-requires-in-On : goal.go-requires-in-On
-go-requires-in-On c =
+pub go-requires-in-Two-2 : goal.go-requires-in-Two-2
+go-requires-in-Two-2 c =
     let a = c.args in
-    record { pass_ready = stands_after a.s.now a.ws.now a.t a.ch a.v a.l a.q c.requires c.operand-condition.result c.operand-condition.ensures c.exit_of-exit.result c.exit_of-exit.ensures c.ways_of.result c.ways_of.ensures c.in-Two.next c.in-Two.target c.in-Two.is c.go-in-Two.new.ws c.in-On.q (rw c.in-On.is at c.go-in-Two.ensures.passed) c.go-in-Two.ensures.beside; value = c.exit_of-exit.ensures }
+    record { pass_ready = stands_after a.s.now a.ws.now a.t a.ch a.v a.l a.q c.requires c.operand-condition.result c.operand-condition.ensures c.exit_of-exit.result c.exit_of-exit.ensures c.ways_of.result c.ways_of.ensures c.in-Two.next c.in-Two.target c.in-Two.is c.go-in-Two.new.ws c.in_ok-q-in-Two.q (rw c.in_ok-q-in-Two.was at c.go-in-Two.ensures.passed) c.go-in-Two.ensures.beside; value = c.exit_of-exit.ensures }
 
 pub returns-in-Zero : goal.returns-in-Zero
 returns-in-Zero c =
@@ -36,12 +37,13 @@ returns-in-One c =
     let a = c.args in
     one_way a.s.now a.ws.now a.t a.ch a.v a.l a.q c.requires c.operand-condition.result c.operand-condition.ensures c.exit_of-exit.result c.exit_of-exit.ensures c.ways_of.result c.ways_of.ensures c.in-One.to c.in-One.is c.go.new.ws c.go.result c.go.ensures.passed
 
-pub returns-in-Stop : goal.returns-in-Stop
-returns-in-Stop c =
+pub returns-in_err-q-in-Two : goal.returns-in_err-q-in-Two
+returns-in_err-q-in-Two c =
     let a = c.args in
-    two-stop a.s.now a.ws.now a.t a.ch a.v a.l a.q c.requires c.operand-condition.result c.operand-condition.ensures c.exit_of-exit.result c.exit_of-exit.ensures c.ways_of.result c.ways_of.ensures c.in-Two.next c.in-Two.target c.in-Two.is c.go-in-Two.new.ws c.in-Stop.n (rw c.in-Stop.is at c.go-in-Two.ensures.passed)
+    let e : c.from_residual.result ≡ Err c.in_err-q-in-Two.field-0.0 = search rules in
+    rw e (two-stop a.s.now a.ws.now a.t a.ch a.v a.l a.q c.requires c.operand-condition.result c.operand-condition.ensures c.exit_of-exit.result c.exit_of-exit.ensures c.ways_of.result c.ways_of.ensures c.in-Two.next c.in-Two.target c.in-Two.is c.go-in-Two.new.ws c.in_err-q-in-Two.field-0.0 (rw c.in_err-q-in-Two.was at c.go-in-Two.ensures.passed))
 
-pub returns-in-On : goal.returns-in-On
-returns-in-On c =
+pub returns-in_ok-q-in-Two : goal.returns-in_ok-q-in-Two
+returns-in_ok-q-in-Two c =
     let a = c.args in
-    two_ways a.s.now a.ws.now a.t a.ch a.v a.l a.q c.requires c.operand-condition.result c.operand-condition.ensures c.exit_of-exit.result c.exit_of-exit.ensures c.ways_of.result c.ways_of.ensures c.in-Two.next c.in-Two.target c.in-Two.is c.go-in-Two.new.ws c.in-On.q (rw c.in-On.is at c.go-in-Two.ensures.passed) c.go-in-Two.ensures.beside c.go-in-On.new.ws c.go-in-On.result c.go-in-On.ensures.passed
+    two_ways a.s.now a.ws.now a.t a.ch a.v a.l a.q c.requires c.operand-condition.result c.operand-condition.ensures c.exit_of-exit.result c.exit_of-exit.ensures c.ways_of.result c.ways_of.ensures c.in-Two.next c.in-Two.target c.in-Two.is c.go-in-Two.new.ws c.in_ok-q-in-Two.q (rw c.in_ok-q-in-Two.was at c.go-in-Two.ensures.passed) c.go-in-Two.ensures.beside c.go-in-Two-2.new.ws c.go-in-Two-2.result c.go-in-Two-2.ensures.passed

@@ -2,10 +2,10 @@
 use Rattle.definition.specs.Report.{origin_number}
 use Rattle.report_cells.proofs.origin_number.Goals as goal
 
-pub returns-in-Nowhere : goal.returns-in-Nowhere
+pub returns-in-None : goal.returns-in-None
 unfolding origin_number
-returns-in-Nowhere c = cc
+returns-in-None c = cc
 
-pub returns-in-Local : goal.returns-in-Local
+pub returns-in-Some : goal.returns-in-Some
 unfolding origin_number
-returns-in-Local c = cc
+returns-in-Some c = cc

@@ -2,10 +2,10 @@
 use Rattle.definition.specs.Report.{owned_byte}
 use Rattle.report_cells.proofs.owned_byte.Goals as goal
 
-pub returns-in-No : goal.returns-in-No
+pub returns-then-o : goal.returns-then-o
 unfolding owned_byte
-returns-in-No c = cc
+returns-then-o c = rw c.if-o.true
 
-pub returns-in-Yes : goal.returns-in-Yes
+pub returns-else-o : goal.returns-else-o
 unfolding owned_byte
-returns-in-Yes c = cc
+returns-else-o c = rw c.if-o.false

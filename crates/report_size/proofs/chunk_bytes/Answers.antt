@@ -1,7 +1,7 @@
 -- `report_size::chunk_bytes` meets its contract. Invariant: n is the length of what the instructions before i add.
-use Prim.Native.Nat.{ℕ, ◌-◌}
+use Prim.Native.Nat.{ℕ}
 use native.Mathlib.Omega.{arith}
-use mathlib.Core.Path.{sym, ap, ◌∙◌}
+use mathlib.Core.Path.{◌≡◌, sym, ap, ◌∙◌}
 use lib.ListN.{length}
 use Rattle.report_size.specs.Span.{span}
 use Rattle.report_size.proofs.Span.{span_none, long-more}
@@ -16,13 +16,7 @@ chunk_at-ch-requires c = record { indexed = c.requires.finished.ended.prepared.i
 pub loop-i-init : goal.loop-i-init
 loop-i-init c =
     let a = c.args in
-    let e = count-recordable a.s.now a.ws.now a.c c.chunk_at-ch.result c.chunk_at-ch.ensures c.recorded_count-count.result c.recorded_count-count.ensures in (
-      omega arith,
-      e,
-      omega (arith, e, few-recordable a.s.now a.ws.now c.requires.finished.ended.prepared.indexed a.c c.requires.c_in_bounds),
-      sym (ap length (span_none (all_for a.s.now a.ws.now a.c) 0)),
-      omega arith,
-    )
+    (sym (ap length (span_none (all_for a.s.now a.ws.now a.c) 0)), omega arith)
 
 pub instr_bytes-n-requires : goal.instr_bytes-n-requires
 instr_bytes-n-requires c =
@@ -30,19 +24,22 @@ instr_bytes-n-requires c =
     record { finished = c.requires.finished; here = counted-here a.s.now a.ws.now a.c c.chunk_at-ch.result c.chunk_at-ch.ensures c.recorded_count-count.result c.recorded_count-count.ensures c.requires.c_in_bounds c.loop-i.i c.loop-i-test.true }
 
 pub overflow_add-n : goal.overflow_add-n
-overflow_add-n c = let i = c.loop-i.invariant in omega (arith, i.2, i.4, c.instr_bytes-n.ensures.1, c.loop-i-test.true)
+overflow_add-n c =
+    let a = c.args in
+    let e = count-recordable a.s.now a.ws.now a.c c.chunk_at-ch.result c.chunk_at-ch.ensures c.recorded_count-count.result c.recorded_count-count.ensures in
+    omega (arith, e, few-recordable a.s.now a.ws.now c.requires.finished.ended.prepared.indexed a.c c.requires.c_in_bounds, c.loop-i.invariant.1, c.instr_bytes-n.ensures.1, c.loop-i-test.true)
 
 pub loop-i-preserved : goal.loop-i-preserved
 loop-i-preserved c =
     let a = c.args in
     let i = c.loop-i.invariant in
     let m = long-more (all_for a.s.now a.ws.now a.c) 0 c.loop-i.i (omega arith) in
-    (omega (arith, c.loop-i-test.true), i.1, i.2, omega (arith, i.3, m, c.instr_bytes-n.ensures.0), omega (arith, i.4, c.instr_bytes-n.ensures.1))
+    (omega (arith, i.0, m, c.instr_bytes-n.ensures.0), omega (arith, i.1, c.instr_bytes-n.ensures.1))
 
 pub returns : goal.returns
 unfolding all_in
 returns c =
     let a = c.args in
     let i = c.loop-i.invariant in
-    let e = i.1 in
-    (i.3 ∙ ap (λ (k : ℕ). length (span (all_for a.s.now a.ws.now a.c) 0 k)) (omega (arith, i.0, e, c.loop-i-test.false)), omega (arith, i.0, e, i.4, coded-recordable a.s.now a.c))
+    let e : c.loop-i.i ≡ recordable a.s.now a.c = omega (arith, c.loop-i.auto.i-end, c.loop-i-test.false, count-recordable a.s.now a.ws.now a.c c.chunk_at-ch.result c.chunk_at-ch.ensures c.recorded_count-count.result c.recorded_count-count.ensures) in
+    (i.0 ∙ ap (λ (k : ℕ). length (span (all_for a.s.now a.ws.now a.c) 0 k)) e, omega (arith, e, i.1, coded-recordable a.s.now a.c))

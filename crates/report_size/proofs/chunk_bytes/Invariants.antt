@@ -1,14 +1,10 @@
-use Prim.Native.Nat.{◌*◌, ◌-◌, ◌≤◌}
+use Prim.Native.Nat.{◌*◌, ◌≤◌}
 use mathlib.Core.Path.{◌≡◌}
 use lib.ListN.{length}
 use Rattle.report_size.specs.Span.{span}
-use Rattle.report_size.specs.Adds.{recordable}
 use Rattle.report_size.specs.Measured.{all_for}
 use Rattle.report_size.proofs.chunk_bytes.Given as goal
 
 abbrev pub invariant-loop-i : goal.invariant-loop-i
 invariant-loop-i l =
-    (l.i ≤ l.count) × (l.count ≡ recordable l.s l.c) × (l.count ≤ 4096) × (l.n ≡ length (span (all_for l.s l.ws l.c) 0 l.i)) × (l.n ≤ 16170 * l.i)
-
-abbrev pub decreases-loop-i : goal.decreases-loop-i
-decreases-loop-i l = l.count - l.i
+    (l.n ≡ length (span (all_for l.s l.ws l.c) 0 l.i)) × (l.n ≤ 16170 * l.i)

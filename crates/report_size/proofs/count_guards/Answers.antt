@@ -1,5 +1,4 @@
 -- `report_size::count_guards` meets its contract. Invariant: those counted and those from p on are all.
-use Prim.Native.Nat.{◌-◌}
 use native.Mathlib.Omega.{arith}
 use mathlib.Core.Path.{sym, ap, ◌∙◌}
 use lib.ListN.{length}
@@ -24,16 +23,18 @@ unfolding asked_in
 loop-p-init c =
     let a = c.args in
     let e = c.places_asked-places.ensures in (
-      omega (arith, ap (λ (r : Places). r.from) e),
-      e,
       omega (arith, ap (λ (r : Places). length (guards_in (asked_from a.s.now a.ws.now a.v a.want r.from r.end))) e),
       few-guards a.s.now a.ws.now a.v a.want (looking-standing a.s.now a.ws.now a.v c.requires.asking.looking).low,
     )
 
 pub check_place-requires : goal.check_place-requires
 check_place-requires c =
-    let i = c.loop-p.invariant in
-    record { asking = c.requires.asking; t_value = c.requires.t_value; ask_bound = (i.0, omega (arith, c.loop-p-test.true, ap (λ (r : Places). r.end) i.1)) }
+    let e = c.places_asked-places.ensures in
+    record {
+      asking = c.requires.asking;
+      t_value = c.requires.t_value;
+      ask_bound = (omega (arith, c.loop-p.auto.p, ap (λ (r : Places). r.from) e), omega (arith, c.loop-p-test.true, ap (λ (r : Places). r.end) e));
+    }
 
 pub overflow_add-n : goal.overflow_add-n
 overflow_add-n c =
@@ -41,7 +42,7 @@ overflow_add-n c =
     let i = c.loop-p.invariant in
     let f = sym (c.is_guard.ensures ∙ ap is_guard c.check_place.ensures) ∙ c.if-is_guard.true in
     let g = guards-turn a.s.now a.ws.now a.v a.want c.loop-p.p c.places_asked-places.result.end c.loop-p-test.true _ f in
-    omega (arith, i.2, i.3, g)
+    omega (arith, i.0, i.1, g)
 
 pub loop-p-preserved : goal.loop-p-preserved
 loop-p-preserved c =
@@ -49,10 +50,8 @@ loop-p-preserved c =
     let i = c.loop-p.invariant in
     let e = sym (c.is_guard.ensures ∙ ap is_guard c.check_place.ensures) in
     let g = guards-turn a.s.now a.ws.now a.v a.want c.loop-p.p c.places_asked-places.result.end c.loop-p-test.true in (
-      omega (arith, i.0),
+      elim c.if-is_guard.branch [ then-is_guard w ↦ omega (arith, i.0, w.n-is, g _ (e ∙ w.if-is_guard.true)) | else-is_guard w ↦ omega (arith, i.0, w.n-is, g _ (e ∙ w.if-is_guard.false)) ],
       i.1,
-      elim c.if-is_guard.branch [ then-is_guard w ↦ omega (arith, i.2, w.n-is, g _ (e ∙ w.if-is_guard.true)) | else-is_guard w ↦ omega (arith, i.2, w.n-is, g _ (e ∙ w.if-is_guard.false)) ],
-      i.3,
     )
 
 pub returns : goal.returns
@@ -61,4 +60,4 @@ returns c =
     let i = c.loop-p.invariant in
     let g = ap length (guards-are a.s.now a.ws.now a.v a.want c.requires.asking) in
     let z = guards-end a.s.now a.ws.now a.v a.want c.loop-p.p c.places_asked-places.result.end (omega (arith, c.loop-p-test.false)) in
-    omega (arith, i.2, i.3, g, z)
+    omega (arith, i.0, i.1, g, z)

@@ -1,5 +1,5 @@
 -- `report_size::measure` meets its contract. Invariant: n is the length of the reply, the slots and what the chunks before c add.
-use Prim.Native.Nat.{ℕ, ◌-◌, ◌<◌}
+use Prim.Native.Nat.{ℕ, ◌<◌}
 use native.Mathlib.Omega.{arith}
 use mathlib.Core.Path.{◌≡◌, ap}
 use lib.ListN.{length}
@@ -22,9 +22,6 @@ overflow_add-n c = let a = c.args in omega (arith, slots-are a.s.now a.t c.requi
 pub loop-c-init : goal.loop-c-init
 loop-c-init c =
     let a = c.args in (
-      omega arith,
-      omega (arith, chunks-are a.s.now a.t c.requires.t_value, c.requires.ended.prepared.indexed.good.chunks_most),
-      omega (arith, slots-are a.s.now a.t c.requires.t_value, c.requires.ended.prepared.indexed.good.slots),
       omega (
         arith,
         ap length (span_none (cut (signature_at a.s.now a.ws.now) a.t.signatures) 0),
@@ -53,13 +50,7 @@ overflow_add-n-in-loop-c-2 c =
     let a = c.args in
     let i = c.loop-c.invariant in
     let here : c.loop-c.c < length (module_of a.s.now).chunks = omega (arith, c.loop-c-test.true, chunks-are a.s.now a.t c.requires.t_value) in
-    omega (arith, c.chunk_bytes.ensures.1, c.signature_bytes.ensures.1, i.0, i.1, i.4, few-with a.s.now c.requires.ended.prepared.indexed.good c.loop-c.c here)
-
-pub overflow_add-c : goal.overflow_add-c
-overflow_add-c c = let i = c.loop-c.invariant in omega (arith, i.0, i.1)
-
-pub loop-c-smaller : goal.loop-c-smaller
-loop-c-smaller c = omega (arith, c.loop-c-test.true)
+    omega (arith, c.chunk_bytes.ensures.1, c.signature_bytes.ensures.1, i.1, c.requires.ended.prepared.indexed.good.chunks_most, few-with a.s.now c.requires.ended.prepared.indexed.good c.loop-c.c here)
 
 pub loop-c-preserved : goal.loop-c-preserved
 loop-c-preserved c =
@@ -67,35 +58,32 @@ loop-c-preserved c =
     let i = c.loop-c.invariant in
     let k = c.loop-c.c in
     let here : c.loop-c.c < length (module_of a.s.now).chunks = omega (arith, c.loop-c-test.true, chunks-are a.s.now a.t c.requires.t_value) in (
-      omega (arith, c.loop-c-test.true),
-      i.1,
-      i.2,
       omega (
         arith,
-        i.3,
+        i.0,
         c.chunk_bytes.ensures.0,
         c.signature_bytes.ensures.0,
         long-more (cut (signature_at a.s.now a.ws.now) a.t.signatures) 0 k (omega arith),
         long-more (all_in a.s.now a.ws.now) 0 k (omega arith),
       ),
-      omega (arith, i.4, c.chunk_bytes.ensures.1, c.signature_bytes.ensures.1, next-first a.s.now c.requires.ended.prepared.indexed.good k here),
+      omega (arith, i.1, c.chunk_bytes.ensures.1, c.signature_bytes.ensures.1, next-first a.s.now c.requires.ended.prepared.indexed.good k here),
     )
 
 pub returns : goal.returns
 returns c =
     let a = c.args in
     let i = c.loop-c.invariant in
-    let e : c.loop-c.c ≡ length (module_of a.s.now).chunks = omega (arith, i.0, c.loop-c-test.false, chunks-are a.s.now a.t c.requires.t_value) in
+    let e : c.loop-c.c ≡ length (module_of a.s.now).chunks = omega (arith, c.loop-c.auto.c-end, c.loop-c-test.false, chunks-are a.s.now a.t c.requires.t_value) in
     let g = report-long a.s.now a.ws.now c.requires.ended.prepared.indexed in (
       λ reply.
           omega (
             arith,
-            i.3,
+            i.0,
             g reply,
             slots-are a.s.now a.t c.requires.t_value,
             ap (λ (k : ℕ). length (span (cut (signature_at a.s.now a.ws.now) a.t.signatures) 0 k)) e,
             ap (λ (k : ℕ). length (span (cut (signature_at a.s.now a.ws.now) k) 0 (length (module_of a.s.now).chunks))) (signatures-are a.s.now a.t c.requires.t_value),
             ap (λ (k : ℕ). length (span (all_in a.s.now a.ws.now) 0 k)) e,
           ),
-      omega (arith, i.0, i.1, i.4, few-first a.s.now c.requires.ended.prepared.indexed.good c.loop-c.c),
+      omega (arith, e, i.1, c.requires.ended.prepared.indexed.good.chunks_most, few-first a.s.now c.requires.ended.prepared.indexed.good c.loop-c.c),
     )

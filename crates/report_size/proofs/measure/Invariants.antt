@@ -1,4 +1,4 @@
-use Prim.Native.Nat.{◌+◌, ◌*◌, ◌-◌, ◌≤◌}
+use Prim.Native.Nat.{◌+◌, ◌*◌, ◌≤◌}
 use mathlib.Core.Path.{◌≡◌}
 use lib.ListN.{length, take}
 use Rattle.definition.specs.Module.{module_of}
@@ -10,8 +10,5 @@ use Rattle.report_size.proofs.measure.Given as goal
 
 abbrev pub invariant-loop-c : goal.invariant-loop-c
 invariant-loop-c l =
-    (l.c ≤ l.t.chunks) × (l.t.chunks ≤ 64) × (l.t.slots ≤ 1024) × (l.n ≡ 7 + 52 * l.t.slots + length (span (cut (signature_at l.s l.ws) l.t.signatures) 0 l.c) + length (span (all_in l.s l.ws) 0 l.c))
+    (l.n ≡ 7 + 52 * l.t.slots + length (span (cut (signature_at l.s l.ws) l.t.signatures) 0 l.c) + length (span (all_in l.s l.ws) 0 l.c))
     × (l.n ≤ 65536 + 1024 * l.c + 16170 * instrs_in (take l.c (module_of l.s).chunks))
-
-abbrev pub decreases-loop-c : goal.decreases-loop-c
-decreases-loop-c l = l.t.chunks - l.c

@@ -1,11 +1,7 @@
-use Prim.Native.Nat.{◌-◌, ◌≤◌}
 use Rattle.le.specs.Wrote.{Wrote}
 use Rattle.report_size.specs.Span.{span}
 use Rattle.report_write.specs.records.Writes.{slot_from}
 use Rattle.report_write.proofs.put_slots.Given as goal
 
 abbrev pub invariant-loop-k : goal.invariant-loop-k
-invariant-loop-k l = (l.k ≤ l.t.slots) × Wrote l.initial.buf l.at (span (slot_from l.ws l.t.chunks) 0 l.k) l.buf l.to
-
-abbrev pub decreases-loop-k : goal.decreases-loop-k
-decreases-loop-k l = l.t.slots - l.k
+invariant-loop-k l = Wrote l.initial.buf l.at (span (slot_from l.ws l.t.chunks) 0 l.k) l.buf l.to

@@ -1,4 +1,4 @@
-use Prim.Native.Nat.{ℕ, ◌+◌, ◌*◌, ◌-◌, ◌<◌, ◌≤◌}
+use Prim.Native.Nat.{ℕ, ◌+◌, ◌*◌, ◌<◌, ◌≤◌}
 use mathlib.Core.Path.{◌≡◌}
 use mathlib.Core.Bool.{cond}
 use lib.ListN.{get_or}
@@ -7,8 +7,5 @@ use Rattle.resumable.proofs.rows_low.Given as goal
 
 abbrev pub invariant-loop-i : goal.invariant-loop-i
 invariant-loop-i l =
-    (l.i ≤ l.count) × ((k : ℕ) → k < l.i → get_or l.ws (l.ch.rows + k * l.ch.size) 0 ≤ l.ch.stack + 1)
+    ((k : ℕ) → k < l.i → get_or l.ws (l.ch.rows + k * l.ch.size) 0 ≤ l.ch.stack + 1)
     × (l.ch ≡ chunk_at l.s l.ws l.c) × (l.count ≡ cond l.ch.reachable l.ch.count 0)
-
-abbrev pub decreases-loop-i : goal.decreases-loop-i
-decreases-loop-i l = l.count - l.i

@@ -15,11 +15,11 @@ use Rattle.definition.specs.Start.{known_of}
 use Rattle.visit.specs.Held.{live_in}
 use Rattle.run_state.specs.declared.Run.{Run}
 use Rattle.run_state.specs.Course.{final_in, past_in, analysis_in, Low, LowBefore, Prepared}
-use Rattle.rounds.specs.declared.entering.Settled.TheVariants.{Due, Done}
 use Rattle.rounds.specs.entering.Entering.{where_in, Goes, Opened}
 use Rattle.rounds.specs.entering.Reach.{NextReachable}
 use Rattle.rounds.proofs.entering.Reach.{enters-found, enters_none}
 use Rattle.rounds.specs.entering.Began.{entered, Began}
+use Rattle.std.specs.Prelude.{Some, None, Ok}
 
 -- the machine goes on from the chunk n, with the states of those before
 pub enters-due : (s ws : List ℕ) (v : Bool) (end : Live → List (List (Option State)) → Where Chunk Live Facts State) (changed : Bool) (n r : ℕ)
@@ -43,12 +43,12 @@ unfolding LowBefore
 low-all s ws r x = low-reached s ws 0 r x (λ k l e. absurd (omega arith))
 
 module _ (s ws : List ℕ) (validating : Bool) (steps n : ℕ) (x : NextReachable s 0 n) where
-  pub opens : (v : List ℕ) (r : Run) → n < length (module_of s).chunks → Began s ws v n validating false steps r → Opened s ws v validating steps (Due r)
+  pub opens : (v : List ℕ) (r : Run) → n < length (module_of s).chunks → Began s ws v n validating false steps r → Opened s ws v validating steps (Ok (Some r))
   unfolding Opened where_in Goes known_of past_in row
   opens v r h b =
       (ap due b.machine ∙ sym (enters-due s ws validating (finish (analysis_in s ws)) false 0 n x h), (b.between, b.due, b.same-steps), b.long)
 
-  pub opens-none : Prepared s ws → length (module_of s).chunks ≤ n → Opened s ws ws validating steps Done
+  pub opens-none : Prepared s ws → length (module_of s).chunks ≤ n → Opened s ws ws validating steps (Ok None)
   unfolding Opened where_in Goes known_of past_in row finish final_in live_in
   opens-none p h =
       (sym (enters_none s ws validating (finish (analysis_in s ws)) (live_in s ws false) 0 n x h), record { prepared = p; low = low }, refl)

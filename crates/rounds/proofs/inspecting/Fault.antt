@@ -10,6 +10,7 @@ use borrow.Author.Tests.{eqb-true, eq-eqb, ne_eqb, ltb-false, le-ltb}
 use lib.Dec.{eqb, ltb}
 use lib.ListN.{length, get_or}
 use Rattle.answers.specs.declared.Refusal.{Refusal}
+use Rattle.std.specs.Prelude.{Ok, Err}
 use Rattle.masks.proofs.Both.{never, or_left, or_right}
 use Rattle.masks.specs.Mask.{has, same}
 use Rattle.masks.specs.Names.{STRUCT, ENUM}
@@ -37,7 +38,7 @@ use Rattle.layout.proofs.Read.{row_is, row-known}
 use Rattle.row_join.specs.joining.Leave.{state_by, state_in}
 use Rattle.run_state.specs.Course.{states_in, Low, state_at}
 use Rattle.rule_laws.proofs.Table.{every-rule}
-use Rattle.rounds.specs.inspecting.Fault.{Inspected, RowRead, enum_fault, op_fault, receiver_fault, struct_fault}
+use Rattle.rounds.specs.inspecting.Fault.{fault_told, Inspected, RowRead, enum_fault, op_fault, receiver_fault, struct_fault}
 use Rattle.ops.specs.Numbers.{op_is_enum, op_is_struct}
 
 pub fault-struct : (op : ℕ) (c : Cell) (h k b : Bool) → op ≡ op_is_struct → h ≡ has c.mask STRUCT → k ≡ same c.mask STRUCT → (h && not k) ≡ b
@@ -180,20 +181,25 @@ module _ (s ws : List ℕ) (c : ℕ) where
     unfolding FaultFrom
     fault-next t = step i l x n e ∙ rw (eq-eqb n 0 t, add-one i)
 
-    pub fault-found : (steps : ℕ) (r : Refusal) → (n ≡ 0 → ⊥) → r ≡ refusal n c i steps → Inspected s ws c steps r
+    pub fault-found : (steps : ℕ) (r : Refusal) → (n ≡ 0 → ⊥) → r ≡ refusal n c i steps → Inspected s ws c steps (Err r)
+    unfolding fault_told
     fault-found steps r t q =
-        rw q (record { fault = step i l x n e ∙ rw (ne_eqb n 0 t); place = refl; same-steps = refl })
+        rw q
+        (record {
+          fault = step i l x n e ∙ rw (ne_eqb n 0 t);
+          place = λ f h. let z : f ≡ refusal n c i steps = cc in ap (λ (y : Refusal). y.chunk) z;
+          same-steps = λ f h. let z : f ≡ refusal n c i steps = cc in ap (λ (y : Refusal). y.steps) z;
+        })
 
-  pub fault-end : (i steps : ℕ) (r : Refusal) → FaultFrom i → length (chunk_no (module_of s) c).code ≤ i → r ≡ refusal 0 c 65535 steps → Inspected s ws c steps r
-  unfolding FaultFrom inspected row
-  fault-end i steps r x l q =
+  pub fault-end : (i steps : ℕ) → FaultFrom i → length (chunk_no (module_of s) c).code ≤ i → Inspected s ws c steps (Ok tt)
+  unfolding FaultFrom inspected row fault_told
+  fault-end i steps x l =
       let z : length (chunk_no (module_of s) c).code - i ≡ 0 = omega arith in
-      rw q
-      (record {
+      record {
         fault = x ∙ ap (λ (n : ℕ). inspected (chunk_no (module_of s) c) i (row (state_at s c ws) i n)) z;
-        place = refl;
-        same-steps = refl;
-      })
+        place = λ f h. cc;
+        same-steps = λ f h. cc;
+      }
 
 pub row_read : (s ws : List ℕ) (c : ℕ) (ch : ChunkNumbers) (i : ℕ) → Indexed s ws → c < length (module_of s).chunks → ch ≡ chunk_at s ws c → i < ch.count → Low s ws c
     → RowRead ws (ch.rows + i * ch.size)

@@ -1,5 +1,5 @@
 -- What is looked for after a chunk was validated, as the code looks for it: by the instruction, in the words of its row.
-use Rattle.std.specs.Prelude.{ℕ, ◌+◌, ◌<◌, ◌≤◌, ◌≡◌, not, cond, ◌&&◌, List, eqb, length, get_or}
+use Rattle.std.specs.Prelude.{ℕ, ◌+◌, ◌<◌, ◌≤◌, ◌≡◌, not, cond, ◌&&◌, List, eqb, length, get_or, Result, Ok, Err}
 use Rattle.std.proofs.Math.Option.{Option, none, some}
 use Rattle.answers.specs.declared.Refusal.{Refusal}
 use Rattle.masks.specs.Mask.{has, same}
@@ -34,10 +34,14 @@ op_fault op none = 0
 op_fault op (some s) = inspection_fault (rule_of op).others (last s.stack)
 
 -- ---- a chunk's first fault
-pub record Inspected (s ws : List ℕ) (c steps : ℕ) (r : Refusal) : Type 0 where
-  pub fault : after_chunk (chunk_no (module_of s) c) (states_in s ws c) ≡ cond (eqb r.number 0) none (some (r.number, r.instruction))
-  pub place : r.chunk ≡ c
-  pub same-steps : r.steps ≡ steps
+unfoldable pub fault_told : Result (Unit {0}) Refusal → Option (ℕ × ℕ)
+fault_told (Ok u) = none
+fault_told (Err f) = some (f.number, f.instruction)
+
+pub record Inspected (s ws : List ℕ) (c steps : ℕ) (r : Result (Unit {0}) Refusal) : Type 0 where
+  pub fault : after_chunk (chunk_no (module_of s) c) (states_in s ws c) ≡ fault_told r
+  pub place : (f : Refusal) → r ≡ Err f → f.chunk ≡ c
+  pub same-steps : (f : Refusal) → r ≡ Err f → f.steps ≡ steps
 
 -- the words of a row that are read
 pub record RowRead (ws : List ℕ) (row : ℕ) : Type 0 where

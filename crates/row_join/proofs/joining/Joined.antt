@@ -1,4 +1,5 @@
 -- What leaves is the definition's state after the visit, along the way; and how it meets its target is what the machine puts there.
+use Rattle.std.specs.Prelude.{Option as Maybe, None}
 use Prim.Native.Nat.{ℕ, zero, suc, ◌+◌, ◌-◌, ◌≤◌}
 use mathlib.Core.Path.{◌≡◌, refl, sym, ap, ap₂, ◌∙◌}
 use mathlib.Core.Bool.{Bool, true, false, cond, ◌&&◌}
@@ -10,8 +11,6 @@ use lib.Dec.{eqb, ltb}
 use lib.ListN.{length, get_or, set, length-set, length-map}
 use lib.Seq.{set_out}
 use Rattle.masks.proofs.Both.{both}
-use Rattle.flows.specs.declared.Origin.{Origin}
-use Rattle.flows.specs.declared.Origin.TheVariants.{Nowhere}
 use Rattle.cells.specs.declared.Cell.{Cell}
 use Rattle.cells.specs.Cell.{invalidated_cell, narrow_enum, unit_cell}
 use Rattle.definition.specs.Res.{Res, ok, bad, bind}
@@ -125,11 +124,11 @@ kept-narrowed : (r : ℕ) (c : Cell) → (r ≡ no_local → ⊥) → kept_cell 
 unfolding kept_cell
 kept-narrowed r c p = rw (ne_eqb r no_local p)
 
-bare-stays : (r : ℕ) (c : Cell) → c.flow.origin ≡ Nowhere → narrow_stack r c ≡ c
+bare-stays : (r : ℕ) (c : Cell) → c.flow.origin ≡ None → narrow_stack r c ≡ c
 unfolding narrow_stack is_from
-bare-stays r c e = ap (λ (o : Origin). cond (is_from o r) (narrow_enum c) c) e
+bare-stays r c e = ap (λ (o : Maybe ℕ). cond (is_from o r) (narrow_enum c) c) e
 
-bare-stay : (r : ℕ) (f : ℕ → Cell) → ((k : ℕ) → (f k).flow.origin ≡ Nowhere) → (i n : ℕ) → map (narrow_stack r) (row f i n) ≡ row f i n
+bare-stay : (r : ℕ) (f : ℕ → Cell) → ((k : ℕ) → (f k).flow.origin ≡ None) → (i n : ℕ) → map (narrow_stack r) (row f i n) ≡ row f i n
 unfolding row
 bare-stay r f e i zero = refl
 bare-stay r f e i (suc n) = ap₂ ◌∷◌ (bare-stays r (f i) (e i)) (bare-stay r f e (suc i) n)
@@ -152,7 +151,7 @@ module _ (v : Visit) (l : Leaving) (high : l.height ≡ length v.below + (instr 
       }
 
   -- along a way that narrows; what a test gives came from no local
-  pub leaves-narrowed : (r : ℕ) → l.set.local ≡ no_local → (r ≡ no_local → ⊥) → ((k : ℕ) → (output l.made k).flow.origin ≡ Nowhere) → leaves_kept l r v.below v.locals ≡ narrowed (kept v l.made none) r
+  pub leaves-narrowed : (r : ℕ) → l.set.local ≡ no_local → (r ≡ no_local → ⊥) → ((k : ℕ) → (output l.made k).flow.origin ≡ None) → leaves_kept l r v.below v.locals ≡ narrowed (kept v l.made none) r
   unfolding leaves_kept kept_stack kept_locals kept set_locals forget narrowed set_on_way narrowed_local output_list
   leaves-narrowed r e p bare = λ i. record { stack = stack i; locals = locals i }
     where

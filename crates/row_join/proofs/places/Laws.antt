@@ -1,4 +1,5 @@
 -- Laws of cells that arrive: in two parts, one by one, and where nothing in them is touched.
+use Rattle.std.specs.Prelude.{Option, None}
 use Prim.Native.Nat.{ℕ, zero, suc, ◌+◌, ◌*◌, ◌-◌, ◌<◌, ◌≤◌}
 use mathlib.Core.Path.{◌≡◌, refl, sym, ap, ap₂, ◌∙◌}
 use mathlib.Core.Bool.{Bool, true, false, not, cond, ◌&&◌, ◌||◌, and_assoc, and-true}
@@ -9,8 +10,6 @@ use borrow.Author.Tests.{lt-ltb}
 use lib.Dec.{eqb, ltb}
 use lib.ListN.{length, length-append}
 use Rattle.masks.proofs.Both.{both, never}
-use Rattle.flows.specs.declared.Origin.{Origin}
-use Rattle.flows.specs.declared.Origin.TheVariants.{Nowhere}
 use Rattle.flows.specs.declared.Predicate.{Predicate}
 use Rattle.flows.specs.declared.Predicate.TheVariants.{Nothing as Untested}
 use Rattle.flows.specs.Flow.{origin_without, predicate_without, invalidated}
@@ -173,12 +172,12 @@ arrived-there from to w e =
     takes = ap (join_cell (cell_at w to)) (same-cells w from to e) ∙ cell-joins.idem (cell_at w to)
 
 -- ---- a cell that nothing touches
-plain-kept : (c : Cell) (forget narrow : ℕ) → c.flow.origin ≡ Nowhere → c.flow.predicate ≡ Untested → kept_cell forget narrow c ≡ c
+plain-kept : (c : Cell) (forget narrow : ℕ) → c.flow.origin ≡ None → c.flow.predicate ≡ Untested → kept_cell forget narrow c ≡ c
 unfolding kept_cell narrow_stack is_from invalidated_cell invalidated
 plain-kept c forget narrow o p = go (eqb forget no_local) (eqb narrow no_local)
   where
     stays : narrow_stack narrow c ≡ c
-    stays = ap (λ (x : Origin). cond (is_from x narrow) (narrow_enum c) c) o
+    stays = ap (λ (x : Option ℕ). cond (is_from x narrow) (narrow_enum c) c) o
 
     without : invalidated_cell c forget ≡ c
     without =
@@ -189,7 +188,7 @@ plain-kept c forget narrow o p = go (eqb forget no_local) (eqb narrow no_local)
               record {
                 bodies = c.flow.bodies;
                 owned = c.flow.owned;
-                origin = (ap (λ (x : Origin). origin_without x forget) o ∙ sym o) i;
+                origin = (ap (λ (x : Option ℕ). origin_without x forget) o ∙ sym o) i;
                 predicate = (ap (λ (x : Predicate). predicate_without x forget) p ∙ sym p) i;
               };
         }

@@ -1,4 +1,3 @@
-use Prim.Native.Nat.{◌-◌}
 use mathlib.Core.Path.{◌≡◌}
 use Rattle.masks.specs.Names.{NONE}
 use Rattle.definition.specs.Module.{module_of}
@@ -10,7 +9,4 @@ use Rattle.slots.proofs.kinds_in.Given as goal
 
 abbrev pub invariant-loop-k : goal.invariant-loop-k
 invariant-loop-k l =
-    kinds_in (module_of l.s) (facts_in l.s l.ws) l.m (from l.k l.r.end) ≡ kinds_in (module_of l.s) (facts_in l.s l.ws) NONE (list_of l.r)
-
-abbrev pub decreases-loop-k : goal.decreases-loop-k
-decreases-loop-k l = l.r.end - l.k
+    kinds_in (module_of l.s) (facts_in l.s l.ws) l.m (from l.k l.k-end) ≡ kinds_in (module_of l.s) (facts_in l.s l.ws) NONE (list_of l.fn.r)

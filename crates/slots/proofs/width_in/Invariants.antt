@@ -1,4 +1,3 @@
-use Prim.Native.Nat.{◌-◌}
 use mathlib.Core.Path.{◌≡◌}
 use Rattle.definition.specs.Module.{module_of}
 use Rattle.definition.specs.Data.{width_in, data_width}
@@ -9,8 +8,5 @@ use Rattle.slots.proofs.width_in.Given as goal
 
 abbrev pub invariant-loop-k : goal.invariant-loop-k
 invariant-loop-k l =
-    width_in (module_of l.s) (facts_in l.s l.ws) l.w (from l.k l.r.end)
-    ≡ width_in (module_of l.s) (facts_in l.s l.ws) (data_width (module_of l.s) (facts_in l.s l.ws) l.r.first) (list_of l.r)
-
-abbrev pub decreases-loop-k : goal.decreases-loop-k
-decreases-loop-k l = l.r.end - l.k
+    width_in (module_of l.s) (facts_in l.s l.ws) l.w (from l.k l.k-end)
+    ≡ width_in (module_of l.s) (facts_in l.s l.ws) (data_width (module_of l.s) (facts_in l.s l.ws) l.fn.r.first) (list_of l.fn.r)

@@ -1,5 +1,5 @@
 -- `slots::write_check` meets its contract. Invariant: the slots from k on, beside what is gathered, give the whole.
-use Prim.Native.Nat.{◌+◌, ◌-◌}
+use Prim.Native.Nat.{◌+◌}
 use native.Mathlib.Omega.{arith}
 use mathlib.Core.Path.{sym, ap, ◌∙◌}
 use Rattle.definition.specs.declared.Check.{Check}

@@ -1,4 +1,3 @@
-use Prim.Native.Nat.{◌-◌}
 use mathlib.Core.Path.{◌≡◌}
 use Rattle.definition.specs.declared.Check.TheVariants.{Fine}
 use Rattle.definition.specs.Module.{module_of}
@@ -10,7 +9,4 @@ use Rattle.slots.proofs.write_check.Given as goal
 
 abbrev pub invariant-loop-k : goal.invariant-loop-k
 invariant-loop-k l =
-    write_check (module_of l.s) (facts_in l.s l.ws) l.value l.c (from l.k l.r.end) ≡ write_check (module_of l.s) (facts_in l.s l.ws) l.value Fine (list_of l.r)
-
-abbrev pub decreases-loop-k : goal.decreases-loop-k
-decreases-loop-k l = l.r.end - l.k
+    write_check (module_of l.s) (facts_in l.s l.ws) l.value l.c (from l.k l.k-end) ≡ write_check (module_of l.s) (facts_in l.s l.ws) l.value Fine (list_of l.fn.r)

@@ -11,7 +11,8 @@ use lib.Dec.{eqb, leb}
 use lib.ListN.{length, get_or, drop, drop_of_length-le}
 use lib.Seq.{drop-cons}
 use borrow.Author.Tests.{ne_eqb, eq-eqb, eqb-false}
-use Rattle.answers.specs.Answers.{nowhere, refusal}
+use Rattle.answers.specs.Answers.{refusal}
+use Rattle.std.specs.Prelude.{Ok, Err}
 use Rattle.le.specs.Le.{at8}
 use Rattle.masks.specs.Names.{UNKNOWN}
 use Rattle.widths.specs.declared.Shape.{Shape}
@@ -162,23 +163,16 @@ module _ (s ws : List ℕ) (x : Indexed s ws) (t : Tables) (e : t ≡ tables_of 
   pub turn-next : n ≡ 0 → admitted (module_of s) (drop (c + 1) (module_of s).chunks) ≡ admitted (module_of s) (module_of s).chunks
   turn-next z = sym (admitted-next (module_of s) c there (x.good.each_chunk c there).number n look_is z) ∙ so
 
-  pub turn-stop : (n ≡ 0 → ⊥) → refusal n c 65535 0 ≡ found (admitted (module_of s) (module_of s).chunks)
+  pub turn-stop : (n ≡ 0 → ⊥) → Err (refusal n c 65535 0) ≡ found (admitted (module_of s) (module_of s).chunks)
   unfolding found
   turn-stop d = ap found (sym (admitted-stop (module_of s) c there (x.good.each_chunk c there).number n look_is d) ∙ so)
 
-pub turn_end : (m : Module) (c : ℕ) → length m.chunks ≤ c → admitted m (drop c m.chunks) ≡ admitted m m.chunks → nowhere 0 0 ≡ found (admitted m m.chunks)
+pub turn_end : (m : Module) (c : ℕ) → length m.chunks ≤ c → admitted m (drop c m.chunks) ≡ admitted m m.chunks → Ok tt ≡ found (admitted m m.chunks)
 unfolding found admitted
 turn_end m c l e = ap found (sym (ap (admitted m) (drop_of_length-le m.chunks l)) ∙ e)
 
--- where one is found its number isn't 0
-pub found_none : (m : Module) (cs : List Chunk) → (found (admitted m cs)).number ≡ 0 → admitted m cs ≡ none
-unfolding admitted found
-found_none m [] e = refl
-found_none m (c ∷ cs) e = go c.reachable (eqb (admission m c) 0) refl (found_none m cs) e
-  where
-    go : (r z : Bool) → eqb (admission m c) 0 ≡ z → ((found (admitted m cs)).number ≡ 0 → admitted m cs ≡ none)
-        → (found (cond (r && not z) (some (admission m c, c.number)) (admitted m cs))).number ≡ 0
-        → cond (r && not z) (some (admission m c, c.number)) (admitted m cs) ≡ none
-    go true true q ih e = ih e
-    go true false q ih e = absurd (eqb-false (admission m c) 0 q e)
-    go false z q ih e = ih e
+-- where none is refused, none is found
+pub found_none : (o : Option (ℕ × ℕ)) → Ok tt ≡ found o → o ≡ none
+unfolding found
+found_none none e = refl
+found_none (some x) e = cc

@@ -1,5 +1,5 @@
 -- A look at the chunks, one by one, and the looks one after the other.
-use Prim.Native.Nat.{ℕ, zero, suc, ◌+◌, ◌-◌, ◌<◌, ◌≤◌}
+use Prim.Native.Nat.{ℕ, zero, suc, ◌+◌, ◌<◌, ◌≤◌}
 use native.Mathlib.Omega.{arith}
 use native.Mathlib.Numerals.{add-one}
 use mathlib.Core.Path.{◌≡◌, refl, sym, ap, ◌∙◌}
@@ -11,7 +11,6 @@ use lib.Seq.{drop-cons, set-get_or, get_or-set_same, get_or-set_other}
 use Rattle.words.proofs.RowLaws.{outside_refl, outside_trans, outside_set, outside-widen}
 use Rattle.description.specs.declared.Instr.{Instr}
 use Rattle.definition.specs.Module.{Module, Chunk, module_of}
-use Rattle.definition.specs.Form.{callee}
 use Rattle.definition.specs.Leaves.{no_line, line_at}
 use Rattle.definition.specs.Start.{calls_one, suspend_more, suspend_loop}
 use Rattle.form_laws.proofs.Each.{row-at}
@@ -183,14 +182,13 @@ loop-still zero cs ss e = refl
 loop-still (suc n) cs ss e = ap (suspend_loop n cs) e ∙ loop-still n cs ss e
 
 module _ (s begin ws v : List ℕ) (left : ℕ) (l : Left s begin ws left) (b : Bool) (k : Looked s ws v (suspend_more (module_of s).chunks (suspends_in s ws)) b) where
-  pub left_less : 0 < left → Left s begin v (left - 1)
+  pub left_less : (next : ℕ) → left ≡ suc next → Left s begin v next
   unfolding suspend_loop
-  left_less h =
-      let e : left ≡ suc (left - 1) = omega arith in
+  left_less next e =
       record {
         marked = marked-trans s begin ws v l.marked k.marked;
         rest =
-            ap (suspend_loop (left - 1) (module_of s).chunks) k.suspends
+            ap (suspend_loop next (module_of s).chunks) k.suspends
             ∙ ap (λ (n : ℕ). suspend_loop n (module_of s).chunks (suspends_in s ws)) (sym e)
             ∙ l.rest;
       }

@@ -3,11 +3,7 @@ use Rattle.definition.specs.Start.{reply_in}
 use Rattle.definition.specs.Module.{module_of}
 use lib.ListN.{drop}
 use mathlib.Core.Path.{◌≡◌}
-use Prim.Native.Nat.{◌≤◌, ◌-◌}
 use Rattle.start.proofs.with_chunk.Given as goal
 
 abbrev pub invariant-loop-i : goal.invariant-loop-i
-invariant-loop-i l = (l.i ≤ l.ch.count) × (reply_in (module_of l.s) l.reply (drop l.i (chunk_no (module_of l.s) l.c).code) ≡ reply_in (module_of l.s) l.initial.reply (chunk_no (module_of l.s) l.c).code)
-
-abbrev pub decreases-loop-i : goal.decreases-loop-i
-decreases-loop-i l = l.ch.count - l.i
+invariant-loop-i l = reply_in (module_of l.s) l.reply (drop l.i (chunk_no (module_of l.s) l.c).code) ≡ reply_in (module_of l.s) l.initial.reply (chunk_no (module_of l.s) l.c).code

@@ -1,8 +1,8 @@
--- The words of the contracts: a chunk's numbers as the looks here use them, and the refusal that stands for what is found.
-use Rattle.std.specs.Prelude.{ℕ, ◌≤◌, ◌≡◌, Bool, ◌||◌, List, ◌⊎◌, eqb, length}
+-- The words of the contracts: a chunk's numbers as the looks here use them, and the answer that stands for what is found.
+use Rattle.std.specs.Prelude.{ℕ, ◌≤◌, ◌≡◌, Bool, ◌||◌, List, ◌⊎◌, eqb, length, Result, Ok, Err}
 use Rattle.std.proofs.Math.Option.{Option, none, some}
 use Rattle.answers.specs.declared.Refusal.{Refusal}
-use Rattle.answers.specs.Answers.{nowhere, refusal}
+use Rattle.answers.specs.Answers.{refusal}
 use Rattle.masks.specs.Mask.{same}
 use Rattle.widths.specs.declared.Shape.{Shape}
 use Rattle.widths.specs.Shape.{shape_mask}
@@ -27,7 +27,7 @@ pub record Least (a b n : ℕ) : Type 0 where
   pub second : n ≤ b
   pub one : (n ≡ a) ⊎ (n ≡ b)
 
--- number 0 where all are admitted
-unfoldable pub found : Option (ℕ × ℕ) → Refusal
-found none = nowhere 0 0
-found (some x) = refusal x.0 x.1 65535 0
+-- the first chunk that is not admitted is refused
+unfoldable pub found : Option (ℕ × ℕ) → Result (Unit {0}) Refusal
+found none = Ok tt
+found (some x) = Err (refusal x.0 x.1 65535 0)

@@ -30,14 +30,14 @@ pub go_all-requires : goal.go_all-requires
 go_all-requires c =
     ready-to-go _ _ _ _ _ c.requires.between c.requires.visiting.looking c.requires.same _ c.requires.visiting.chunk _ c.leaving-l.ensures (sym c.fault-n.ensures ∙ c.if-n-ne0.false) _ c.give_in_rounds-changed.ensures.0 _ c.requires.visiting.tables c.requires.queued
 
-pub refuse-requires-in-Stop : goal.refuse-requires-in-Stop
-refuse-requires-in-Stop c =
+pub refuse-requires-in-Err : goal.refuse-requires-in-Err
+refuse-requires-in-Err c =
     let z = place-small _ _ _ c.requires.visiting.looking in record { chunk_bound = omega (arith, z.0, c.requires.same); at_bound = z.1 }
 
-pub returns-in-Stop : goal.returns-in-Stop
-returns-in-Stop c =
-    took-stopped _ _ _ _ _ c.requires.between c.requires.visiting.looking c.requires.same _ c.requires.visiting.chunk _ c.leaving-l.ensures (sym c.fault-n.ensures ∙ c.if-n-ne0.false) _ c.give_in_rounds-changed.ensures.0 _ c.in-Stop.n (rw c.in-Stop.is at c.go_all.ensures) _ c.refuse-in-Stop.ensures
+pub returns-in-Err : goal.returns-in-Err
+returns-in-Err c =
+    took-stopped _ _ _ _ _ c.requires.between c.requires.visiting.looking c.requires.same _ c.requires.visiting.chunk _ c.leaving-l.ensures (sym c.fault-n.ensures ∙ c.if-n-ne0.false) _ c.give_in_rounds-changed.ensures.0 _ c.in-Err.n (rw c.in-Err.is at c.go_all.ensures) _ c.refuse-in-Err.ensures
 
-pub returns-in-On : goal.returns-in-On
-returns-in-On c =
-    took-on _ _ _ _ _ c.requires.between c.requires.visiting.looking c.requires.same _ c.requires.visiting.chunk _ c.leaving-l.ensures (sym c.fault-n.ensures ∙ c.if-n-ne0.false) _ c.give_in_rounds-changed.ensures.0 _ c.in-On.q _ c.give_in_rounds-changed.ensures.1 (rw c.in-On.is at c.go_all.ensures)
+pub returns-in-Ok : goal.returns-in-Ok
+returns-in-Ok c =
+    took-on _ _ _ _ _ c.requires.between c.requires.visiting.looking c.requires.same _ c.requires.visiting.chunk _ c.leaving-l.ensures (sym c.fault-n.ensures ∙ c.if-n-ne0.false) _ c.give_in_rounds-changed.ensures.0 _ c.in-Ok.queue _ c.give_in_rounds-changed.ensures.1 (rw c.in-Ok.is at c.go_all.ensures)

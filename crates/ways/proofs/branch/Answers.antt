@@ -2,14 +2,14 @@
 use Rattle.definition.specs.Ways.{branch}
 use Rattle.ways.proofs.branch.Goals as goal
 
-pub returns-then-same : goal.returns-then-same
+pub returns-then-eq : goal.returns-then-eq
 unfolding branch
-returns-then-same c = rw (← c.same.ensures, c.if-same.true)
+returns-then-eq c = rw (← c.eq.ensures, c.if-eq.true)
 
-pub returns-then-same-2 : goal.returns-then-same-2
+pub returns-then-eq-2 : goal.returns-then-eq-2
 unfolding branch
-returns-then-same-2 c = rw (← c.same.ensures, c.if-same.false, ← c.same-2.ensures, c.if-same-2.true)
+returns-then-eq-2 c = rw (← c.eq.ensures, c.if-eq.false, ← c.eq-2.ensures, c.if-eq-2.true)
 
 pub returns : goal.returns
 unfolding branch
-returns c = rw (← c.same.ensures, c.if-same.false, ← c.same-2.ensures, c.if-same-2.false)
+returns c = rw (← c.eq.ensures, c.if-eq.false, ← c.eq-2.ensures, c.if-eq-2.false)

@@ -1,4 +1,5 @@
 -- `ways::receiver_on` meets its contract.
+use Rattle.flows.proofs.Same.{bool-same}
 use Rattle.definition.specs.Ways.{receiver_on}
 use Rattle.ways.proofs.receiver_on.Goals as goal
 
@@ -6,10 +7,10 @@ pub returns-in-Nothing : goal.returns-in-Nothing
 unfolding receiver_on
 returns-in-Nothing c = rw c.in-Nothing.is
 
-pub returns-then-same_bool : goal.returns-then-same_bool
+pub returns-then-when-counted : goal.returns-then-when-counted
 unfolding receiver_on
-returns-then-same_bool c = rw (c.in-Tests.is, ← c.before.same_bool.ensures, c.if-same_bool.true)
+returns-then-when-counted c = rw (c.in-Tests.is, ← bool-same _ _, c.if-when-counted.true)
 
-pub returns-else-same_bool : goal.returns-else-same_bool
+pub returns-else-when-counted : goal.returns-else-when-counted
 unfolding receiver_on
-returns-else-same_bool c = rw (c.in-Tests.is, ← c.before.same_bool.ensures, c.if-same_bool.false)
+returns-else-when-counted c = rw (c.in-Tests.is, ← bool-same _ _, c.if-when-counted.false)

@@ -7,10 +7,6 @@ use mathlib.Core.List.{List, [], ◌∷◌, ◌++◌}
 use lib.ListN.{length, get_or, set, drop, replicate}
 use Rattle.words.specs.clearing.Clearing.{cleared}
 
-pub cleared-none : (ws : List ℕ) → ws ≡ cleared ws 0
-unfolding cleared
-cleared-none ws = refl
-
 -- one word more
 cleared-set : (ws : List ℕ) (n : ℕ) → n < length ws → set (replicate n 0 ++ drop n ws) n 0 ≡ replicate (suc n) 0 ++ drop (suc n) ws
 cleared-set [] n h = absurd (omega arith)

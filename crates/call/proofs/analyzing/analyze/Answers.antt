@@ -1,19 +1,18 @@
 -- `call::analyzing::analyze` meets its contract.
-use mathlib.Core.Path.{◌≡◌}
-use Rattle.call.specs.declared.analyzing.Reached.TheVariants.{Refused as NotReached}
+use Rattle.std.proofs.Common.{◌≡◌, Err, rules}
 use Rattle.call.proofs.analyzing.Laws.{told-refused, may-deliver, told-delivered}
 use Rattle.call.proofs.analyzing.analyze.Goals as goal
 
 pub deliver-requires : goal.deliver-requires
 deliver-requires c =
-    let d = may-deliver _ _ _ _ c.decide_run.ensures _ _ c.in-Ready.is in
+    let d = may-deliver _ _ _ _ c.decide_run.ensures _ c.in_ok-end.was in
     record { ended = d.0; faultless = d.1; t_value = c.requires.t_value }
 
-pub returns-in-Refused : goal.returns-in-Refused
-returns-in-Refused c =
-    let e : c.decide_run.result ≡ NotReached c.in-Refused.r = cc in
-    told-refused _ _ _ _ c.decide_run.ensures _ _ e
+pub returns-in_err-end : goal.returns-in_err-end
+returns-in_err-end c =
+    let e : c.from_residual.result ≡ Err c.in_err-end.field-0.0 = search rules in
+    rw e (told-refused _ _ _ _ c.decide_run.ensures _ _ c.in_err-end.was)
 
-pub returns-in-Ready : goal.returns-in-Ready
-returns-in-Ready c =
-    told-delivered _ _ _ _ c.decide_run.ensures _ _ c.in-Ready.is _ _ _ c.deliver.ensures
+pub returns : goal.returns
+returns c =
+    told-delivered _ _ _ _ c.decide_run.ensures _ c.in_ok-end.was _ _ _ c.deliver.ensures

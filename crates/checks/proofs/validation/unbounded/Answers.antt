@@ -1,4 +1,5 @@
 -- `checks::validation::unbounded` meets its contract.
+use borrow.Author.Rules.{rules}
 use Rattle.definition.specs.Wants.{is_unknown}
 use Rattle.checks.proofs.validation.unbounded.Goals as goal
 
@@ -6,10 +7,6 @@ pub returns-in-Unknown : goal.returns-in-Unknown
 unfolding is_unknown
 returns-in-Unknown c = rw c.in-Unknown.is
 
-pub returns-in-Absent : goal.returns-in-Absent
+pub returns-in_default : goal.returns-in_default
 unfolding is_unknown
-returns-in-Absent c = rw c.in-Absent.is
-
-pub returns-in-Range : goal.returns-in-Range
-unfolding is_unknown
-returns-in-Range c = rw c.in-Range.is
+returns-in_default c = search rules

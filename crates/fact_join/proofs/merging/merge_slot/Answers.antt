@@ -15,4 +15,4 @@ returns c =
     c.put_low-2.ensures.0
     _
     (c.union-new.ensures ∙ ap₂ (λ (m n : Mask). union m n) c.mask_at-old.ensures c.mask_at.ensures)
-    (ap not (c.same.ensures ∙ ap (λ (m : Mask). same m c.union-new.result) c.mask_at-old.ensures))
+    (c.ne.ensures ∙ ap (λ (m : Mask). not (same m c.union-new.result)) c.mask_at-old.ensures)

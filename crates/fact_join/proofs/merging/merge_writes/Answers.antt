@@ -1,6 +1,5 @@
 -- `fact_join::merging::merge_writes` meets its contract. The loop's invariant: the slots below k are merged, and those from k on say with `moved` whether the facts moved.
-use Prim.Native.Nat.{◌-◌}
-use mathlib.Core.Path.{◌≡◌, refl, ◌∙◌}
+use mathlib.Core.Path.{◌≡◌, ◌∙◌}
 use native.Mathlib.Omega.{arith}
 use Rattle.definition.specs.Module.{module_of}
 use Rattle.fact_join.proofs.merging.Merge.{merging-none, merging-more, merging-answer, merging-facts}
@@ -8,7 +7,7 @@ use Rattle.layout.proofs.Read.{slots-are, slot-known}
 use Rattle.fact_join.proofs.merging.merge_writes.Goals as goal
 
 pub loop-k-init : goal.loop-k-init
-loop-k-init c = (merging-none c.args.s.now c.args.ws.now c.args.changed, omega arith, refl)
+loop-k-init c = merging-none c.args.s.now c.args.ws.now c.args.changed
 
 pub slot_at-requires : goal.slot_at-requires
 slot_at-requires c =
@@ -20,26 +19,20 @@ pub merge_slot-moved-requires : goal.merge_slot-moved-requires
 merge_slot-moved-requires c =
     let a = c.args in
     let r = slot-known a.s.now a.ws.now a.t c.loop-k.k c.requires.indexed c.requires.t_value c.loop-k-test.true in
-    omega (arith, c.loop-k.invariant.2)
+    omega (arith, c.loop-k.auto.ws)
 
 pub loop-k-preserved : goal.loop-k-preserved
 loop-k-preserved c =
     let a = c.args in
     let l = c.loop-k in
-    let r = slot-known a.s.now a.ws.now a.t l.k c.requires.indexed c.requires.t_value c.loop-k-test.true in (
-      merging-more a.s.now a.ws.now l.ws _ l.k a.changed l.moved _ r.there l.invariant.0
-          (rw (c.slot_at.ensures ∙ r.at) at c.merge_slot-moved.ensures),
-      omega arith,
-      c.merge_slot-moved.auto.ws ∙ l.invariant.2,
-    )
-
-pub shape_of-ws : goal.shape_of-ws
-shape_of-ws c = c.loop-k.invariant.2
+    let r = slot-known a.s.now a.ws.now a.t l.k c.requires.indexed c.requires.t_value c.loop-k-test.true in
+    merging-more a.s.now a.ws.now l.ws _ l.k a.changed l.moved _ r.there l.invariant
+    (rw (c.slot_at.ensures ∙ r.at) at c.merge_slot-moved.ensures)
 
 pub returns : goal.returns
 returns c =
     let a = c.args in
     let l = c.loop-k in
     let e : l.k ≡ (module_of a.s.now).slots = omega (arith, slots-are a.s.now a.t c.requires.t_value) in
-    let m = rw e at l.invariant.0 in
+    let m = rw e at l.invariant in
     (m.frame, merging-answer a.s.now a.ws.now l.ws a.changed l.moved m, merging-facts a.s.now a.ws.now l.ws a.changed l.moved m)

@@ -4,4 +4,4 @@ use Rattle.flows.proofs.Flow.invalidate.Goals as goal
 
 pub returns : goal.returns
 unfolding invalidated
-returns c = rw (c.without-2.ensures, c.without.ensures)
+returns c = rw (c.without.ensures, c.origin_without.ensures)

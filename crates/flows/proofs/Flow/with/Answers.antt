@@ -4,4 +4,4 @@ use Rattle.flows.proofs.Flow.with.Goals as goal
 
 pub returns : goal.returns
 unfolding join_flow
-returns c = rw (c.join-3.ensures, c.join-2.ensures, c.join.ensures, c.join_bodies.ensures)
+returns c = rw (c.join.ensures, c.join_origin.ensures, c.join_bodies.ensures)

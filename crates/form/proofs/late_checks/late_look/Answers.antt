@@ -1,8 +1,8 @@
 -- `form::late_checks::late_look` meets its contract: from each field on the look gives the whole answer.
-use mathlib.Core.Path.{sym, ◌∙◌}
-use Prim.Native.Nat.{◌-◌}
+use mathlib.Core.Path.{sym, ap, ◌∙◌}
 use native.Mathlib.Omega.{arith}
 use Rattle.answers.specs.Answers.{in_field}
+use Rattle.form.specs.late_checks.Counted.{passed}
 use Rattle.form.proofs.late_checks.Looks.{look-table, chunk-room, look-chunk, instr-room, look-instr, look-fault, look-other, look-end}
 use Rattle.form.proofs.late_checks.late_look.Goals as goal
 
@@ -14,12 +14,12 @@ overflow_add-chunk c =
     omega (arith, chunk-room _ _ _ _ _ _ c.loop-at-test.true c.loop-at.invariant (sym c.tag_at-tag.ensures ∙ c.if-tag-eq2.true))
 
 pub returns-then-faulty : goal.returns-then-faulty
-unfolding in_field
+unfolding in_field passed
 returns-then-faulty c =
     rw (c.in_field.ensures, c.before-then-faulty.ensures)
-    (look-fault _ _ _ _ _ _ c.loop-at-test.true c.loop-at.invariant
+    (ap passed (look-fault _ _ _ _ _ _ c.loop-at-test.true c.loop-at.invariant
     (sym c.tag_at-tag.ensures ∙ c.if-tag-eq3.true)
-    (sym c.faulty.ensures ∙ c.if-faulty.true))
+    (sym c.faulty.ensures ∙ c.if-faulty.true)))
 
 pub overflow_add-instr : goal.overflow_add-instr
 overflow_add-instr c =
@@ -48,4 +48,5 @@ loop-at-preserved c =
     (look-other _ _ _ _ _ _ c.loop-at-test.true c.loop-at.invariant (λ e. c.if-tag-eq2.false (tag ∙ e)) (λ e. c.if-tag-eq3.false (tag ∙ e)))
 
 pub returns : goal.returns
-returns c = c.nowhere.ensures ∙ look-end _ _ _ _ _ _ c.loop-at-test.false c.loop-at.invariant
+unfolding passed
+returns c = ap passed (look-end _ _ _ _ _ _ c.loop-at-test.false c.loop-at.invariant)

@@ -1,8 +1,7 @@
 -- `form::late_checks::parameters` meets its contract: what is stored and what is still to be stored make the table.
 use mathlib.Core.Path.{refl}
-use Prim.Native.Nat.{◌-◌}
 use native.Mathlib.Omega.{arith}
-use lib.ListN.{length, length-set}
+use lib.ListN.{length-set}
 use Rattle.form.proofs.late_checks.Looks.{fill_none, has_room, fill-put, fill-skip, fill_end}
 use Rattle.form.proofs.late_checks.parameters.Goals as goal
 

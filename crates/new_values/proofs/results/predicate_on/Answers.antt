@@ -2,14 +2,14 @@
 use Rattle.definition.specs.Outputs.{predicate_on}
 use Rattle.new_values.proofs.results.predicate_on.Goals as goal
 
-pub returns-in-Nowhere : goal.returns-in-Nowhere
+pub returns-in-None : goal.returns-in-None
 unfolding predicate_on
-returns-in-Nowhere c = rw c.in-Nowhere.is
+returns-in-None c = rw c.in-None.is
 
-pub returns-then-same : goal.returns-then-same
+pub returns-then-eq : goal.returns-then-eq
 unfolding predicate_on
-returns-then-same c = rw (c.in-Local.is, ← c.same.ensures, c.if-same.true)
+returns-then-eq c = rw (c.in-Some.is, ← c.eq.ensures, c.if-eq.true)
 
-pub returns-else-same : goal.returns-else-same
+pub returns-else-eq : goal.returns-else-eq
 unfolding predicate_on
-returns-else-same c = rw (c.in-Local.is, ← c.same.ensures, c.if-same.false)
+returns-else-eq c = rw (c.in-Some.is, ← c.eq.ensures, c.if-eq.false)

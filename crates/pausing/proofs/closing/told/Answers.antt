@@ -3,12 +3,12 @@ use Rattle.pausing.specs.Turned.{alone}
 use Rattle.pausing.proofs.closing.Laws.{told-alone}
 use Rattle.pausing.proofs.closing.told.Goals as goal
 
-pub returns-in-Refused : goal.returns-in-Refused
+pub returns-in-Err : goal.returns-in-Err
 unfolding alone
-returns-in-Refused c =
-    told-alone _ _ _ _ (rw c.in-Refused.is at c.deliver.ensures)
+returns-in-Err c =
+    told-alone _ _ _ _ (rw c.in-Err.is at c.deliver.ensures)
 
-pub returns-in-Accepted : goal.returns-in-Accepted
+pub returns-in-Ok : goal.returns-in-Ok
 unfolding alone
-returns-in-Accepted c =
-    told-alone _ _ _ _ (rw c.in-Accepted.is at c.deliver.ensures)
+returns-in-Ok c =
+    told-alone _ _ _ _ (rw c.in-Ok.is at c.deliver.ensures)

@@ -3,12 +3,12 @@ use Rattle.pausing.specs.Turned.{beside}
 use Rattle.pausing.proofs.closing.Laws.{told-beside}
 use Rattle.pausing.proofs.closing.told_indexed.Goals as goal
 
-pub returns-in-Refused : goal.returns-in-Refused
+pub returns-in-Err : goal.returns-in-Err
 unfolding beside
-returns-in-Refused c =
-    told-beside _ _ _ _ _ _ (rw c.in-Refused.is at c.deliver_indexed.ensures)
+returns-in-Err c =
+    told-beside _ _ _ _ _ _ (rw c.in-Err.is at c.deliver_indexed.ensures)
 
-pub returns-in-Accepted : goal.returns-in-Accepted
+pub returns-in-Ok : goal.returns-in-Ok
 unfolding beside
-returns-in-Accepted c =
-    told-beside _ _ _ _ _ _ (rw c.in-Accepted.is at c.deliver_indexed.ensures)
+returns-in-Ok c =
+    told-beside _ _ _ _ _ _ (rw c.in-Ok.is at c.deliver_indexed.ensures)

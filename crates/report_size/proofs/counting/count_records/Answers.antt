@@ -1,5 +1,5 @@
 -- `report_size::counting::count_records` meets its contract. Invariant: n is the number of the records of the chunks before c.
-use Prim.Native.Nat.{ℕ, ◌-◌}
+use Prim.Native.Nat.{ℕ}
 use native.Mathlib.Omega.{arith}
 use mathlib.Core.Path.{◌≡◌, sym, ap, ◌∙◌}
 use lib.ListN.{length}
@@ -13,12 +13,7 @@ use Rattle.report_size.proofs.counting.count_records.Goals as goal
 
 pub loop-c-init : goal.loop-c-init
 loop-c-init c =
-    let a = c.args in (
-      omega arith,
-      omega (arith, chunks-are a.s.now a.t c.requires.t_value, c.requires.indexed.good.chunks_most),
-      sym (ap length (span_none (marks_in a.s.now a.ws.now) 0)),
-      omega arith,
-    )
+    (sym (ap length (span_none (marks_in c.args.s.now c.args.ws.now) 0)), omega arith)
 
 pub chunk_records-n-requires : goal.chunk_records-n-requires
 chunk_records-n-requires c =
@@ -26,26 +21,22 @@ chunk_records-n-requires c =
     record { indexed = c.requires.indexed; c_in_bounds = omega (arith, c.loop-c-test.true, chunks-are a.s.now a.t c.requires.t_value) }
 
 pub overflow_add-n : goal.overflow_add-n
-overflow_add-n c = let i = c.loop-c.invariant in omega (arith, c.chunk_records-n.ensures.1, i.0, i.1, i.3)
-
-pub overflow_add-c : goal.overflow_add-c
-overflow_add-c c = let i = c.loop-c.invariant in omega (arith, i.0, i.1)
-
-pub loop-c-smaller : goal.loop-c-smaller
-loop-c-smaller c = omega (arith, c.loop-c-test.true)
+overflow_add-n c =
+    let a = c.args in
+    omega (arith, c.chunk_records-n.ensures.1, c.loop-c.invariant.1, c.loop-c-test.true, chunks-are a.s.now a.t c.requires.t_value, c.requires.indexed.good.chunks_most)
 
 pub loop-c-preserved : goal.loop-c-preserved
 loop-c-preserved c =
     let a = c.args in
     let i = c.loop-c.invariant in
     let g = long-more (marks_in a.s.now a.ws.now) 0 c.loop-c.c (omega arith) in
-    (omega (arith, c.loop-c-test.true), i.1, omega (arith, i.2, g, c.chunk_records-n.ensures.0), omega (arith, i.3, c.chunk_records-n.ensures.1))
+    (omega (arith, i.0, g, c.chunk_records-n.ensures.0), omega (arith, i.1, c.chunk_records-n.ensures.1))
 
 pub returns : goal.returns
 returns c =
     let a = c.args in
     let i = c.loop-c.invariant in
-    let e : c.loop-c.c ≡ length (module_of a.s.now).chunks = omega (arith, i.0, c.loop-c-test.false, chunks-are a.s.now a.t c.requires.t_value) in (
-      λ reply. i.2 ∙ ap (λ (k : ℕ). length (span (marks_in a.s.now a.ws.now) 0 k)) e ∙ sym (records-counted a.s.now a.ws.now reply),
-      omega (arith, i.0, i.1, i.3),
+    let e : c.loop-c.c ≡ length (module_of a.s.now).chunks = omega (arith, c.loop-c.auto.c-end, c.loop-c-test.false, chunks-are a.s.now a.t c.requires.t_value) in (
+      λ reply. i.0 ∙ ap (λ (k : ℕ). length (span (marks_in a.s.now a.ws.now) 0 k)) e ∙ sym (records-counted a.s.now a.ws.now reply),
+      omega (arith, e, i.1, c.requires.indexed.good.chunks_most),
     )

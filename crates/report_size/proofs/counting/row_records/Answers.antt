@@ -1,12 +1,14 @@
 -- `report_size::counting::row_records` meets its contract.
-use Prim.Native.Nat.{ℕ}
+use Prim.Native.Nat.{ℕ, ◌≤◌}
 use native.Mathlib.Omega.{arith}
-use mathlib.Core.Path.{◌∙◌, sym, ap}
-use mathlib.Core.Bool.{Bool, cond}
+use mathlib.Core.Path.{◌≡◌, refl}
+use mathlib.Core.Bool.{Bool, true, false, cond}
+use mir.Val.{bool_byte}
 use Rattle.report_size.proofs.counting.row_records.Goals as goal
 
-pub returns-then-is_recorded : goal.returns-then-is_recorded
-returns-then-is_recorded c = (sym (ap (λ (b : Bool). cond {A = ℕ} b 1 0) (sym c.is_recorded.ensures ∙ c.if-is_recorded.true)), omega arith)
+bit-is : (b : Bool) → (bool_byte b ≡ cond {A = ℕ} b 1 0) × (bool_byte b ≤ 1)
+bit-is true = (refl, omega arith)
+bit-is false = (refl, omega arith)
 
-pub returns-else-is_recorded : goal.returns-else-is_recorded
-returns-else-is_recorded c = (sym (ap (λ (b : Bool). cond {A = ℕ} b 1 0) (sym c.is_recorded.ensures ∙ c.if-is_recorded.false)), omega arith)
+pub returns : goal.returns
+returns c = rw (c.from.ensures, c.is_recorded.ensures) (bit-is _)

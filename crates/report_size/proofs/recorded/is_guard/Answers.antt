@@ -1,4 +1,4 @@
--- `report_size::recorded::is_guard` meets its contract: a case for each check.
+-- `report_size::recorded::is_guard` meets its contract.
 use Rattle.report_size.specs.recorded.Guard.{is_guard}
 use borrow.Author.Rules.{rules}
 use Rattle.report_size.proofs.recorded.is_guard.Goals as goal
@@ -7,10 +7,6 @@ pub returns-in-Guard : goal.returns-in-Guard
 unfolding is_guard
 returns-in-Guard c = search rules
 
-pub returns-in-Fine : goal.returns-in-Fine
+pub returns-in_default : goal.returns-in_default
 unfolding is_guard
-returns-in-Fine c = search rules
-
-pub returns-in-Unproven : goal.returns-in-Unproven
-unfolding is_guard
-returns-in-Unproven c = search rules
+returns-in_default c = search rules

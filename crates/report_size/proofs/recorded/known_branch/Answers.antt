@@ -6,4 +6,4 @@ pub returns : goal.returns
 returns c =
     let a = c.args in
     decided-by a.ws.now a.row a.op c.is_recorded.result c.top_mask-m.result c.is_recorded.ensures
-    c.top_mask-m.ensures c.same.result c.same-2.result c.same.ensures c.same-2.ensures
+    c.top_mask-m.ensures c.eq.result c.eq-2.result c.eq.ensures c.eq-2.ensures

@@ -4,7 +4,6 @@ use native.Mathlib.Omega.{arith}
 use mathlib.Core.Path.{◌≡◌, ap, ◌∙◌}
 use mathlib.Core.List.{[]}
 use lib.ListN.{length}
-use Rattle.le.proofs.Laws.{same_length as same-long}
 use Rattle.definition.specs.declared.Check.{Check}
 use Rattle.definition.specs.Wants.{guard_of}
 use Rattle.definition.specs.Report.{guards_bytes}
@@ -29,24 +28,22 @@ overflow_sub-n c =
 pub loop-k-init : goal.loop-k-init
 loop-k-init c =
     let a = c.args in
-    let e = c.places_asked-places.ensures in
     let f = guard_at a.s.now a.ws.now a.v a.want in
     let i = (places_by a.v a.want.ask).from in
-    (e, ap (λ (r : Places). r.end - r.from) e, omega arith, said-exact (span-start f i _ a.at) (ap (span f i) (omega arith)))
+    said-exact (span-start f i _ a.at) (ap (span f i) (omega arith))
 
 pub place_in_turn-p-requires : goal.place_in_turn-p-requires
 place_in_turn-p-requires c =
-    let i = c.loop-k.invariant in
-    omega (arith, c.loop-k-test.true, i.1, ap (λ (r : Places). r.from) i.0, ap (λ (r : Places). r.end) i.0)
+    let e = c.places_asked-places.ensures in
+    omega (arith, c.loop-k-test.true, ap (λ (r : Places). r.from) e, ap (λ (r : Places). r.end) e)
 
 pub check_place-requires : goal.check_place-requires
 check_place-requires c =
-    let i = c.loop-k.invariant in
     let q = c.place_in_turn-p.ensures in
-    let f = ap (λ (r : Places). r.from) i.0 in
-    let e = ap (λ (r : Places). r.end) i.0 in
+    let f = ap (λ (r : Places). r.from) c.places_asked-places.ensures in
+    let e = ap (λ (r : Places). r.end) c.places_asked-places.ensures in
     let t = c.loop-k-test.true in
-    record { asking = c.requires.asking; t_value = c.requires.t_value; ask_bound = (omega (arith, q, f, e, t, i.1), omega (arith, q, f, e, t, i.1)) }
+    record { asking = c.requires.asking; t_value = c.requires.t_value; ask_bound = (omega (arith, q, f, e, t), omega (arith, q, f, e, t)) }
 
 pub put_guard-to-requires : goal.put_guard-to-requires
 unfolding guard_at
@@ -57,11 +54,11 @@ put_guard-to-requires c =
     let g = guard_at a.s.now a.ws.now a.v a.want in
     let P = places_by a.v a.want.ask in
     let p = c.place_in_turn-p.result in
-    let q : p ≡ P.from + k = c.place_in_turn-p.ensures ∙ ap (λ (r : Places). r.from + k) i.0 in
-    let e : P.from + k < P.end = omega (arith, c.loop-k-test.true, i.1) in
+    let q : p ≡ P.from + k = c.place_in_turn-p.ensures ∙ ap (λ (r : Places). r.from + k) c.places_asked-places.ensures in
+    let e : P.from + k < P.end = omega (arith, c.loop-k-test.true, ap (λ (r : Places). r.from) c.places_asked-places.ensures, ap (λ (r : Places). r.end) c.places_asked-places.ensures) in
     let d = looking-standing a.s.now a.ws.now a.v c.requires.asking.looking in
     let r = ap length (guards-span a.s.now a.ws.now a.v a.want c.requires.asking) in
-    let f = span_fits g P.from _ a.at (P.from + k) (omega arith) _ _ i.3 P.end e (omega (arith, c.requires.v_in_bounds, r)) in record { p_bound = omega (arith, q, e, d.low, (places-low a.v a.want.ask d.start).1); c_in_bounds = omega (arith, f, ap (λ (x : Check). length (guards_bytes (guard_of p x []))) c.check_place.ensures, ap (λ n. length (g n)) q) }
+    let f = span_fits g P.from _ a.at (P.from + k) (omega arith) _ _ i P.end e (omega (arith, c.requires.v_in_bounds, r)) in record { p_bound = omega (arith, q, e, d.low, (places-low a.v a.want.ask d.start).1); c_in_bounds = omega (arith, f, ap (λ (x : Check). length (guards_bytes (guard_of p x []))) c.check_place.ensures, ap (λ n. length (g n)) q) }
 
 pub loop-k-preserved : goal.loop-k-preserved
 unfolding guard_at
@@ -72,16 +69,9 @@ loop-k-preserved c =
     let g = guard_at a.s.now a.ws.now a.v a.want in
     let P = places_by a.v a.want.ask in
     let p = c.place_in_turn-p.result in
-    let q : p ≡ P.from + k = c.place_in_turn-p.ensures ∙ ap (λ (r : Places). r.from + k) i.0 in
-    let w = said-exact c.put_guard-to.ensures (ap (λ (x : Check). guards_bytes (guard_of p x [])) c.check_place.ensures ∙ ap g q) in (
-      i.0,
-      i.1,
-      omega (arith, c.loop-k-test.true),
-      said-exact (span-turn g P.from _ a.at (P.from + k) (omega arith) _ _ i.3 _ _ w) (ap (span g P.from) (omega arith)),
-    )
-
-pub shape_of-buf : goal.shape_of-buf
-shape_of-buf c = same-long c.loop-k.invariant.3
+    let q : p ≡ P.from + k = c.place_in_turn-p.ensures ∙ ap (λ (r : Places). r.from + k) c.places_asked-places.ensures in
+    let w = said-exact c.put_guard-to.ensures (ap (λ (x : Check). guards_bytes (guard_of p x [])) c.check_place.ensures ∙ ap g q) in
+    said-exact (span-turn g P.from _ a.at (P.from + k) (omega arith) _ _ i _ _ w) (ap (span g P.from) (omega arith))
 
 pub returns : goal.returns
 returns c =
@@ -90,5 +80,5 @@ returns c =
     let k = c.loop-k.k in
     let g = guard_at a.s.now a.ws.now a.v a.want in
     let P = places_by a.v a.want.ask in
-    let z : (P.from + k) - P.from ≡ P.end - P.from = omega (arith, i.1, i.2, c.loop-k-test.false) in
-    said-exact i.3 (span-stop g _ (P.from + k) _ z ∙ guards-span a.s.now a.ws.now a.v a.want c.requires.asking)
+    let z : (P.from + k) - P.from ≡ P.end - P.from = omega (arith, c.loop-k.auto.k-end, c.loop-k-test.false, ap (λ (r : Places). r.end - r.from) c.places_asked-places.ensures) in
+    said-exact i (span-stop g _ (P.from + k) _ z ∙ guards-span a.s.now a.ws.now a.v a.want c.requires.asking)

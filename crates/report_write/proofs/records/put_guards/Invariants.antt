@@ -1,5 +1,4 @@
-use Prim.Native.Nat.{◌+◌, ◌-◌, ◌≤◌}
-use mathlib.Core.Path.{◌≡◌}
+use Prim.Native.Nat.{◌+◌}
 use Rattle.le.specs.Wrote.{Wrote}
 use Rattle.checks.specs.asked.Proving.{places_by}
 use Rattle.report_size.specs.Span.{span}
@@ -8,8 +7,4 @@ use Rattle.report_write.proofs.records.put_guards.Given as goal
 
 abbrev pub invariant-loop-k : goal.invariant-loop-k
 invariant-loop-k l =
-    (l.places ≡ places_by l.v l.want.ask) × (l.n ≡ (places_by l.v l.want.ask).end - (places_by l.v l.want.ask).from) × (l.k ≤ l.n)
-    × Wrote l.initial.buf l.at (span (guard_at l.s l.ws l.v l.want) (places_by l.v l.want.ask).from ((places_by l.v l.want.ask).from + l.k)) l.buf l.to
-
-abbrev pub decreases-loop-k : goal.decreases-loop-k
-decreases-loop-k l = l.n - l.k
+    Wrote l.initial.buf l.at (span (guard_at l.s l.ws l.v l.want) (places_by l.v l.want.ask).from ((places_by l.v l.want.ask).from + l.k)) l.buf l.to

@@ -1,5 +1,4 @@
-use Prim.Native.Nat.{◌*◌, ◌-◌, ◌≤◌}
-use mathlib.Core.Path.{◌≡◌}
+use Prim.Native.Nat.{◌*◌}
 use Rattle.le.specs.Wrote.{WroteN}
 use Rattle.definition.specs.Module.{row}
 use Rattle.definition.specs.Outputs.{output}
@@ -7,7 +6,4 @@ use Rattle.definition.specs.Report.{placed, outputs_bytes}
 use Rattle.report_write.proofs.records.put_outputs.Given as goal
 
 abbrev pub invariant-loop-k : goal.invariant-loop-k
-invariant-loop-k l = (l.k ≤ l.given) × (l.given ≡ l.v.ins.given) × WroteN l.initial.buf l.at (51 * l.k) (outputs_bytes (placed l.v.start (row (output l.made) 0 l.k))) l.buf l.to
-
-abbrev pub decreases-loop-k : goal.decreases-loop-k
-decreases-loop-k l = l.given - l.k
+invariant-loop-k l = WroteN l.initial.buf l.at (51 * l.k) (outputs_bytes (placed l.v.start (row (output l.made) 0 l.k))) l.buf l.to

@@ -1,4 +1,4 @@
-use Prim.Native.Nat.{ℕ, ◌-◌, ◌<◌, ◌≤◌}
+use Prim.Native.Nat.{ℕ, ◌<◌}
 use mathlib.Core.Path.{◌≡◌}
 use mathlib.Core.Bool.{cond}
 use Rattle.layout.specs.Indexed.{chunk_at}
@@ -7,7 +7,4 @@ use Rattle.resumable.proofs.faultless.chunk_fine.Given as goal
 
 abbrev pub invariant-loop-i : goal.invariant-loop-i
 invariant-loop-i l =
-    (l.i ≤ l.count) × ((k : ℕ) → k < l.i → FineAt l.s l.ws l.c k) × (l.ch ≡ chunk_at l.s l.ws l.c) × (l.count ≡ cond l.ch.reachable l.ch.count 0)
-
-abbrev pub decreases-loop-i : goal.decreases-loop-i
-decreases-loop-i l = l.count - l.i
+    ((k : ℕ) → k < l.i → FineAt l.s l.ws l.c k) × (l.ch ≡ chunk_at l.s l.ws l.c) × (l.count ≡ cond l.ch.reachable l.ch.count 0)

@@ -1,5 +1,4 @@
 -- `resumable::faultless::is_faultless` meets its contract. Invariant: the chunks before c are fine.
-use Prim.Native.Nat.{◌-◌}
 use native.Mathlib.Omega.{arith}
 use borrow.Author.Count.{below_none, below_more}
 use Rattle.layout.proofs.Read.{chunks-are}
@@ -8,7 +7,7 @@ use Rattle.resumable.proofs.faultless.Fine.{faultless-all, faultless-in}
 use Rattle.resumable.proofs.faultless.is_faultless.Goals as goal
 
 pub loop-c-init : goal.loop-c-init
-loop-c-init c = (omega arith, below_none _)
+loop-c-init c = below_none _
 
 pub chunk_fine-requires : goal.chunk_fine-requires
 chunk_fine-requires c =
@@ -20,19 +19,11 @@ returns-then-not-chunk_fine c =
     let a = c.args in
     no (λ f. refuted c.chunk_fine.ensures (c.if-not-chunk_fine.true) (faultless-in a.s.now a.ws.now f c.loop-c.c))
 
-pub overflow_add-c : goal.overflow_add-c
-overflow_add-c c =
-    let a = c.args in
-    omega (arith, c.loop-c-test.true, chunks-are a.s.now a.t c.requires.t_value, c.requires.ended.prepared.indexed.good.chunks_most)
-
-pub loop-c-smaller : goal.loop-c-smaller
-loop-c-smaller c = omega (arith, c.loop-c-test.true)
-
 pub loop-c-preserved : goal.loop-c-preserved
 loop-c-preserved c =
-    (omega (arith, c.loop-c-test.true), below_more _ _ c.loop-c.invariant.1 (c.chunk_fine.ensures.sound (c.if-not-chunk_fine.false)))
+    below_more _ _ c.loop-c.invariant (c.chunk_fine.ensures.sound (c.if-not-chunk_fine.false))
 
 pub returns : goal.returns
 returns c =
     let a = c.args in
-    yes (faultless-all a.s.now a.ws.now (λ k l. c.loop-c.invariant.1 k (omega (arith, c.loop-c-test.false, chunks-are a.s.now a.t c.requires.t_value))))
+    yes (faultless-all a.s.now a.ws.now (λ k l. c.loop-c.invariant k (omega (arith, c.loop-c-test.false, chunks-are a.s.now a.t c.requires.t_value))))

@@ -3,10 +3,10 @@ use Rattle.definition.specs.Start.{under_eight}
 use borrow.Author.Rules.{rules}
 use Rattle.rounds.proofs.inspecting.below_discriminant.Goals as goal
 
-pub returns-in-Nothing : goal.returns-in-Nothing
+pub returns-in-None : goal.returns-in-None
 unfolding under_eight
-returns-in-Nothing c = search rules
+returns-in-None c = search rules
 
-pub returns-in-Bytes : goal.returns-in-Bytes
+pub returns-in-Some : goal.returns-in-Some
 unfolding under_eight
-returns-in-Bytes c = cc
+returns-in-Some c = cc

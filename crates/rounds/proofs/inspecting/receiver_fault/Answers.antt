@@ -1,19 +1,21 @@
 -- `receiver_fault` meets its contract.
-use mathlib.Core.Path.{ap, ◌∙◌}
+use mathlib.Core.Path.{ap, refl, ◌∙◌}
 use mathlib.Core.Bool.{true, false}
+use Rattle.masks.specs.Mask.{same}
+use Rattle.masks.specs.Names.{STRUCT}
 use Rattle.definition.specs.Start.{under_eight}
 use Rattle.rounds.proofs.inspecting.Fault.{fault-struct, fault-enum}
 use Rattle.rounds.proofs.inspecting.receiver_fault.Goals as goal
 
-pub returns-then-has-same : goal.returns-then-has-same
-returns-then-has-same c =
-    fault-struct c.args.op c.args.c c.has.result c.same.result true c.if-op-eq-IS_STRUCT.true c.has.ensures
-    c.same.ensures c.if-has-same.true
+pub returns-then-has-ne : goal.returns-then-has-ne
+returns-then-has-ne c =
+    fault-struct c.args.op c.args.c c.has.result (same c.args.c.mask STRUCT) true c.if-op-eq-IS_STRUCT.true c.has.ensures
+    refl (rw c.ne.ensures at c.if-has-ne.true)
 
-pub returns-else-has-same : goal.returns-else-has-same
-returns-else-has-same c =
-    fault-struct c.args.op c.args.c c.has.result c.same.result false c.if-op-eq-IS_STRUCT.true c.has.ensures
-    c.same.ensures c.if-has-same.false
+pub returns-else-has-ne : goal.returns-else-has-ne
+returns-else-has-ne c =
+    fault-struct c.args.op c.args.c c.has.result (same c.args.c.mask STRUCT) false c.if-op-eq-IS_STRUCT.true c.has.ensures
+    refl (rw c.ne.ensures at c.if-has-ne.false)
 
 pub returns-then-has-below_discriminant : goal.returns-then-has-below_discriminant
 returns-then-has-below_discriminant c =

@@ -2,10 +2,10 @@
 use Rattle.definition.specs.Ways.{is_from}
 use Rattle.row_join.proofs.places.is_from.Goals as goal
 
-pub returns-in-Nowhere : goal.returns-in-Nowhere
+pub returns-in-None : goal.returns-in-None
 unfolding is_from
-returns-in-Nowhere c = cc
+returns-in-None c = cc
 
-pub returns-in-Local : goal.returns-in-Local
+pub returns-in-Some : goal.returns-in-Some
 unfolding is_from
-returns-in-Local c = rw c.in-Local.is
+returns-in-Some c = rw c.in-Some.is

@@ -7,7 +7,4 @@ use lib.ListN.{length}
 use Rattle.row_join.proofs.places.keep_all.Given as goal
 
 abbrev pub invariant-loop-p : goal.invariant-loop-p
-invariant-loop-p l = Arrived l.fresh l.to l.p (map (kept_cell l.forget l.narrow) (cells_at l.initial.ws l.from l.p)) l.initial.ws l.ws l.changed × (l.p ≤ l.n) × (length l.ws ≡ length l.initial.ws)
-
-abbrev pub decreases-loop-p : goal.decreases-loop-p
-decreases-loop-p l = l.n - l.p
+invariant-loop-p l = Arrived l.fresh l.to l.p (map (kept_cell l.forget l.narrow) (cells_at l.initial.ws l.from l.p)) l.initial.ws l.ws l.changed

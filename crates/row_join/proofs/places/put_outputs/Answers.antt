@@ -10,19 +10,16 @@ use Rattle.row_join.proofs.places.put_outputs.Goals as goal
 
 pub loop-k-init : goal.loop-k-init
 unfolding output_list row
-loop-k-init c = (arrived-none c.args.fresh c.args.to c.args.ws.now, omega arith, refl)
+loop-k-init c = arrived-none c.args.fresh c.args.to c.args.ws.now
 
 pub loop-k-preserved : goal.loop-k-preserved
 unfolding output_list
 loop-k-preserved c =
     let a = c.args in
     let l = c.loop-k in
-    (row_more (output a.made) a.fresh a.to l.k a.ws.now l.ws _ l.changed _ l.invariant.0 (rw c.output.ensures at c.join_one-changed.ensures), omega arith, c.join_one-changed.auto.ws ∙ l.invariant.2)
-
-pub shape_of-ws : goal.shape_of-ws
-shape_of-ws c = c.loop-k.invariant.2
+    row_more (output a.made) a.fresh a.to l.k a.ws.now l.ws _ l.changed _ l.invariant (rw c.output.ensures at c.join_one-changed.ensures)
 
 pub returns : goal.returns
 returns c =
     let e : c.loop-k.k ≡ c.args.n = omega arith in
-    rw (← e) c.loop-k.invariant.0
+    rw (← e) c.loop-k.invariant

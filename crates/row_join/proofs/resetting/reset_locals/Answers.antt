@@ -9,18 +9,15 @@ use Rattle.row_join.proofs.resetting.reset_locals.Goals as goal
 
 pub loop-k-init : goal.loop-k-init
 unfolding row
-loop-k-init c = (arrived-none c.args.fresh c.args.to c.args.ws.now, omega arith, refl)
+loop-k-init c = arrived-none c.args.fresh c.args.to c.args.ws.now
 
 pub loop-k-preserved : goal.loop-k-preserved
 loop-k-preserved c =
     let a = c.args in
     let l = c.loop-k in
-    (row_more (reset_at a.streams a.reply) a.fresh a.to l.k a.ws.now l.ws _ l.changed _ l.invariant.0 (rw c.reset_cell.ensures at c.join_one-changed.ensures), omega arith, c.join_one-changed.auto.ws ∙ l.invariant.2)
-
-pub shape_of-ws : goal.shape_of-ws
-shape_of-ws c = c.loop-k.invariant.2
+    row_more (reset_at a.streams a.reply) a.fresh a.to l.k a.ws.now l.ws _ l.changed _ l.invariant (rw c.reset_cell.ensures at c.join_one-changed.ensures)
 
 pub returns : goal.returns
 returns c =
     let e : c.loop-k.k ≡ c.args.n = omega arith in
-    rw (← e) c.loop-k.invariant.0
+    rw (← e) c.loop-k.invariant

@@ -7,7 +7,4 @@ use lib.ListN.{length}
 use Rattle.row_join.proofs.resetting.reset_locals.Given as goal
 
 abbrev pub invariant-loop-k : goal.invariant-loop-k
-invariant-loop-k l = Arrived l.fresh l.to l.k (row (reset_at l.streams l.reply) 0 l.k) l.initial.ws l.ws l.changed × (l.k ≤ l.n) × (length l.ws ≡ length l.initial.ws)
-
-abbrev pub decreases-loop-k : goal.decreases-loop-k
-decreases-loop-k l = l.n - l.k
+invariant-loop-k l = Arrived l.fresh l.to l.k (row (reset_at l.streams l.reply) 0 l.k) l.initial.ws l.ws l.changed

@@ -1,5 +1,5 @@
 -- `slots::crossing::any_placed` meets its contract. Invariant: the slots from k on have a placed one exactly where all have.
-use Prim.Native.Nat.{◌+◌, ◌-◌}
+use Prim.Native.Nat.{◌+◌}
 use native.Mathlib.Omega.{arith}
 use mathlib.Core.Path.{sym, ap, ◌∙◌}
 use mathlib.Core.Bool.{Bool, ◌||◌}

@@ -2,13 +2,13 @@
 use Rattle.layout.proofs.Read.{chunks-are}
 use Rattle.start.proofs.admitting.Chunks.{stands, turn-next, turn-stop, turn_end}
 use Rattle.definition.specs.Module.{module_of}
-use mathlib.Core.Path.{refl, ◌∙◌}
-use Prim.Native.Nat.{◌-◌}
+use mathlib.Core.Path.{refl, ap, ◌∙◌}
+use Rattle.std.specs.Prelude.{Err}
 use native.Mathlib.Omega.{arith}
 use Rattle.start.proofs.admitting.admitted.Goals as goal
 
 pub loop-c-init : goal.loop-c-init
-loop-c-init c = (omega arith, refl)
+loop-c-init c = refl
 
 pub chunk_at-requires : goal.chunk_at-requires
 chunk_at-requires c = record { indexed = c.requires.indexed; c_in_bounds = omega (arith, chunks-are _ _ c.requires.t_value) }
@@ -20,10 +20,10 @@ pub refuse-requires : goal.refuse-requires
 refuse-requires c = omega (arith, chunks-are _ _ c.requires.t_value, c.requires.indexed.good.chunks_most)
 
 pub returns-then-n-ne0 : goal.returns-then-n-ne0
-returns-then-n-ne0 c = c.refuse.ensures ∙ turn-stop _ _ c.requires.indexed _ c.requires.t_value _ c.loop-c-test.true _ c.chunk_at.ensures _ c.fault-n.ensures c.loop-c.invariant.1 c.if-n-ne0.true
+returns-then-n-ne0 c = ap Err c.refuse.ensures ∙ turn-stop _ _ c.requires.indexed _ c.requires.t_value _ c.loop-c-test.true _ c.chunk_at.ensures _ c.fault-n.ensures c.loop-c.invariant c.if-n-ne0.true
 
 pub loop-c-preserved : goal.loop-c-preserved
-loop-c-preserved c = (omega arith, turn-next _ _ c.requires.indexed _ c.requires.t_value _ c.loop-c-test.true _ c.chunk_at.ensures _ c.fault-n.ensures c.loop-c.invariant.1 c.if-n-ne0.false)
+loop-c-preserved c = turn-next _ _ c.requires.indexed _ c.requires.t_value _ c.loop-c-test.true _ c.chunk_at.ensures _ c.fault-n.ensures c.loop-c.invariant c.if-n-ne0.false
 
 pub returns : goal.returns
-returns c = c.nowhere.ensures ∙ turn_end (module_of c.args.s.now) c.loop-c.c (omega (arith, chunks-are _ _ c.requires.t_value)) c.loop-c.invariant.1
+returns c = turn_end (module_of c.args.s.now) c.loop-c.c (omega (arith, chunks-are _ _ c.requires.t_value)) c.loop-c.invariant

@@ -3,13 +3,8 @@ use Rattle.definition.specs.Start.{agree}
 use Rattle.definition.specs.Module.{module_of}
 use lib.ListN.{drop}
 use mathlib.Core.Path.{◌≡◌}
-use Prim.Native.Nat.{◌≤◌, ◌-◌}
 use Rattle.start.proofs.admitting.all_agree.Given as goal
 
 abbrev pub invariant-loop-k : goal.invariant-loop-k
 invariant-loop-k l =
-    (l.k ≤ l.n)
-    × (agree (drop l.k (chunk_no (module_of l.s) l.c).tags) (drop l.k (chunk_no (module_of l.s) l.c).params) ≡ agree (chunk_no (module_of l.s) l.c).tags (chunk_no (module_of l.s) l.c).params)
-
-abbrev pub decreases-loop-k : goal.decreases-loop-k
-decreases-loop-k l = l.n - l.k
+    agree (drop l.k (chunk_no (module_of l.s) l.c).tags) (drop l.k (chunk_no (module_of l.s) l.c).params) ≡ agree (chunk_no (module_of l.s) l.c).tags (chunk_no (module_of l.s) l.c).params

@@ -4,11 +4,7 @@ use Rattle.definition.specs.Start.{calls_one}
 use Rattle.definition.specs.Module.{module_of}
 use lib.ListN.{drop}
 use mathlib.Core.Path.{◌≡◌}
-use Prim.Native.Nat.{◌≤◌, ◌-◌}
 use Rattle.start.proofs.suspending.calls_suspending.Given as goal
 
 abbrev pub invariant-loop-i : goal.invariant-loop-i
-invariant-loop-i l = (l.i ≤ l.ch.count) × (calls_one (suspends_in l.s l.ws) (drop l.i (chunk_no (module_of l.s) l.c).code) ≡ calls_one (suspends_in l.s l.ws) (chunk_no (module_of l.s) l.c).code)
-
-abbrev pub decreases-loop-i : goal.decreases-loop-i
-decreases-loop-i l = l.ch.count - l.i
+invariant-loop-i l = calls_one (suspends_in l.s l.ws) (drop l.i (chunk_no (module_of l.s) l.c).code) ≡ calls_one (suspends_in l.s l.ws) (chunk_no (module_of l.s) l.c).code

@@ -1,7 +1,6 @@
 -- `start::suspending::suspend_more` meets its contract.
 use Rattle.start.proofs.suspending.Looks.{looking-first, looking-next, looking-last, marked-indexed}
 use Rattle.layout.proofs.Read.{chunks-are}
-use Prim.Native.Nat.{◌-◌}
 use native.Mathlib.Omega.{arith}
 use Rattle.start.proofs.suspending.suspend_more.Goals as goal
 
@@ -13,9 +12,6 @@ suspend_one-changed-requires c = record { indexed = marked-indexed _ _ _ c.loop-
 
 pub loop-c-preserved : goal.loop-c-preserved
 loop-c-preserved c = looking-next _ _ _ _ _ _ _ c.loop-c.invariant c.requires.indexed (omega (arith, chunks-are _ _ c.requires.t_value)) c.suspend_one-changed.ensures
-
-pub shape_of-ws : goal.shape_of-ws
-shape_of-ws c = c.loop-c.invariant.marked.kept.long
 
 pub returns : goal.returns
 returns c = looking-last _ _ _ _ _ c.loop-c.invariant (omega (arith, chunks-are _ _ c.requires.t_value))

@@ -7,7 +7,4 @@ use Rattle.visit.proofs.operands.Turns.{rest_in}
 use Rattle.visit.proofs.operands.common_kinds.Given as goal
 
 abbrev pub invariant-loop-p : goal.invariant-loop-p
-invariant-loop-p l = (l.v.start ≤ l.p) × (common_kinds l.m (rest_in l.ws l.v l.p) ≡ common_kinds (of 65535) (args_in l.ws l.v))
-
-abbrev pub decreases-loop-p : goal.decreases-loop-p
-decreases-loop-p l = l.v.height - l.p
+invariant-loop-p l = (common_kinds l.m (rest_in l.ws l.v l.p) ≡ common_kinds (of 65535) (args_in l.ws l.v))

@@ -6,7 +6,4 @@ use Rattle.visit.proofs.operands.Turns.{rest_in}
 use Rattle.visit.proofs.operands.packed_at.Given as goal
 
 abbrev pub invariant-loop-p : goal.invariant-loop-p
-invariant-loop-p l = (l.v.start ≤ l.p) × (packed_from l.sum (rest_in l.ws l.v l.p) l.float l.handle ≡ packed_extent (args_in l.ws l.v) l.float l.handle)
-
-abbrev pub decreases-loop-p : goal.decreases-loop-p
-decreases-loop-p l = l.v.height - l.p
+invariant-loop-p l = (packed_from l.sum (rest_in l.ws l.v l.p) l.float l.handle ≡ packed_extent (args_in l.ws l.v) l.float l.handle)

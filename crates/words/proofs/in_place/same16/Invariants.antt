@@ -1,10 +1,6 @@
 use mathlib.Core.Path.{◌≡◌}
-use Prim.Native.Nat.{◌≤◌, ◌-◌}
 use Rattle.words.specs.Layout.{same_n}
 use Rattle.words.proofs.in_place.same16.Given as goal
 
 abbrev pub invariant-loop-k : goal.invariant-loop-k
-invariant-loop-k l = (l.same ≡ same_n l.ws l.a l.b l.k) × (l.k ≤ 15)
-
-abbrev pub decreases-loop-k : goal.decreases-loop-k
-decreases-loop-k l = 15 - l.k
+invariant-loop-k l = l.same ≡ same_n l.ws l.a l.b l.k

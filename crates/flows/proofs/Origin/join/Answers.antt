@@ -1,8 +1,0 @@
--- `flows::Origin::join` meets its contract.
-use Rattle.flows.proofs.Origin.join.Goals as goal
-
-pub returns-then-same : goal.returns-then-same
-returns-then-same c = rw (← c.same.ensures, c.if-same.true)
-
-pub returns-else-same : goal.returns-else-same
-returns-else-same c = rw (← c.same.ensures, c.if-same.false)

@@ -1,9 +1,0 @@
--- `flows::Origin::without` meets its contract.
-use borrow.Author.Tests.{eq-eqb, ne_eqb}
-use Rattle.flows.proofs.Origin.without.Goals as goal
-
-pub returns-then-i-local : goal.returns-then-i-local
-returns-then-i-local c = rw (c.in-Local.is, eq-eqb _ _ c.if-i-local.true)
-
-pub returns-else-i-local : goal.returns-else-i-local
-returns-else-i-local c = rw (c.in-Local.is, ne_eqb _ _ c.if-i-local.false)

@@ -1,6 +1,0 @@
--- `formreplay::append` ends.
-use Rattle.std.proofs.Common.{◌-◌}
-use Rattle.formreplay.proofs.append.Given as goal
-
-abbrev pub decreases-loop-k : goal.decreases-loop-k
-decreases-loop-k l = l.end - l.k

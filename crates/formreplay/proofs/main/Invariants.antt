@@ -1,5 +1,0 @@
--- `formreplay::main` ends.
-use Rattle.formreplay.proofs.main.Given as goal
-
-abbrev pub decreases-loop-left : goal.decreases-loop-left
-decreases-loop-left l = l.left

@@ -1,9 +1,0 @@
--- `operandlist::main` meets its contract.
-use Rattle.std.proofs.Common.{◌≤◌}
-use Rattle.operandlist.proofs.main.Given as goal
-
-abbrev pub invariant-loop-left : goal.invariant-loop-left
-invariant-loop-left l = l.left ≤ 65536
-
-abbrev pub decreases-loop-left : goal.decreases-loop-left
-decreases-loop-left l = l.left

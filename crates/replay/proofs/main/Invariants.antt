@@ -1,5 +1,0 @@
--- `replay::main` ends.
-use Rattle.replay.proofs.main.Given as goal
-
-abbrev pub decreases-loop-left : goal.decreases-loop-left
-decreases-loop-left l = l.left
