@@ -18,7 +18,7 @@
  * nothing else of the same call.
  *
  * Platform: x86-64, System V ABI, ELF; the archive needs memcpy and memset and
- * nothing else. Stack: the deepest chain of frames has 4,424 bytes beside
+ * nothing else. Stack: the deepest chain of frames has 4,600 bytes beside
  * memcpy and memset; allow 8 KB.
  *
  * How much to lend:

@@ -58,8 +58,8 @@ pub mod plain {
 #[allow(dead_code)]
 pub fn sizes(description: &[u8]) -> Result<(u64, u64), u8> {
     match facts::sizes(description) {
-        facts::Enough::Room { words, report } => Ok((words, report)),
-        facts::Enough::Refused(refusal) => Err(refusal.number),
+        Ok(facts::Room { words, report }) => Ok((words, report)),
+        Err(refusal) => Err(refusal.number),
     }
 }
 

@@ -50,7 +50,9 @@ fn put<const N: usize>(buf: &mut [u8], at: usize, bytes: &[u8; N]) -> usize
     requires { at + N ≤ length buf.old }
     ensures { WroteN buf.old at N bytes.now buf.new result }
 {
-    buf[at..at + N].copy_from_slice(bytes);
+    for k in 0..N {
+        buf[at + k] = bytes[k];
+    }
     at + N
 }
 

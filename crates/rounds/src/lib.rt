@@ -45,6 +45,7 @@ fn onward(s: &[u8], ws: &mut [u32], t: Tables, r: Run) -> Result<Option<Run>, Re
 }
 
 // The queue is empty: the run with which an entry is due again, none where all is done, or the refusal.
+#[tactic(auto, using(crate::proofs::Settles::round_settles, crate::proofs::Settles::fault_settles, crate::proofs::Settles::faultless_settles))]
 pub fn settle(s: &[u8], ws: &mut [u32], t: Tables, r: Run) -> Result<Option<Run>, Refusal>
     requires between { Between s.now ws.old r }
     requires count_value { r.queue.count ≡ 0 }

@@ -104,6 +104,7 @@ pub fn spent(s: &[u8], ws: &[u32], t: Tables, r: Run) -> Refusal
 }
 
 // The whole run, from the facts at the start: its steps, or the refusal.
+#[tactic(auto, using(crate::proofs::Runs::run_refused, crate::proofs::Runs::run_over, crate::proofs::Runs::run_spent, crate::proofs::Runs::still_between, crate::proofs::Runs::still_some))]
 pub fn run(s: &[u8], ws: &mut [u32], t: Tables, limit: u32) -> Result<u32, Refusal>
     requires prepared { Prepared s.now ws.old }
     requires false_value { live_in s.now ws.old false ≡ opened (first_facts (module_of s.now)) }

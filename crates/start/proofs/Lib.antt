@@ -1,3 +1,4 @@
 pub mod Replies
 pub mod Inputs
 pub mod Settled
+pub mod Refusing

@@ -161,6 +161,7 @@ fn prepare(s: &[u8], ws: &mut [u32], t: Tables) -> Result<u32, Refusal>
 }
 
 // The facts before the first round, or why there is none; the largest body of a reply.
+#[tactic(auto, using(crate::proofs::Refusing::start_refused, crate::proofs::Refusing::all_admitted))]
 pub fn start(s: &[u8], ws: &mut [u32], t: Tables) -> Result<u32, Refusal>
     requires indexed { Indexed s.now ws.old }
     requires fresh { Fresh s.now ws.old }
@@ -173,6 +174,7 @@ pub fn start(s: &[u8], ws: &mut [u32], t: Tables) -> Result<u32, Refusal>
 }
 
 // What a run that is taken up again knows, or why there can be none: 9 to 12. Its facts stay as they are; the largest body of a reply.
+#[tactic(auto, using(crate::proofs::Refusing::restart_refused, crate::proofs::Refusing::all_admitted))]
 pub fn restart(s: &[u8], ws: &mut [u32], t: Tables) -> Result<u32, Refusal>
     requires indexed { Indexed s.now ws.old }
     requires sites_suspend { SitesSuspend s.now ws.old }

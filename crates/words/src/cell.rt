@@ -204,7 +204,9 @@ fn get16(ws: &[u32], at: usize) -> [u32; 16]
     ensures { (k : ℕ) → k < 16 → get_or result k 0 ≡ get_or ws.now (off at k) 0 }
 {
     let mut a = [0u32; 16];
-    a.copy_from_slice(&ws[at..at + 16]);
+    for k in 0..16 {
+        a[k] = ws[at + k];
+    }
     a
 }
 

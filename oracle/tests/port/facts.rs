@@ -32,9 +32,9 @@ pub struct Part {
     pub size: usize,
 }
 
-pub enum Enough {
-    Room { words: u64, report: u64 },
-    Refused(Refusal),
+pub struct Room {
+    pub words: u64,
+    pub report: u64,
 }
 
 fn wrong(how: &str) -> bool {
@@ -82,19 +82,19 @@ fn without_next_branches(d: &Description, report: &[u8]) -> Vec<u8> {
 }
 
 /// W, asked with no workspace at all; a bound that no report passes, or one that every report does.
-pub fn sizes(description: &[u8]) -> Enough {
+pub fn sizes(description: &[u8]) -> Result<Room, Refusal> {
     let measured = oracle::run::measure(description, 0, 0, 0);
     match (measured.least_words, measured.outcome) {
-        (None, Outcome::Refused(r)) => Enough::Refused(Refusal {
+        (None, Outcome::Refused(r)) => Err(Refusal {
             number: r.number ^ u8::from(wrong("sizes refused")),
             chunk: r.chunk,
             instruction: r.instruction,
             steps: r.steps,
         }),
-        (least, _) => Enough::Room {
+        (least, _) => Ok(Room {
             words: least.expect("W") + 1 + u64::from(wrong("least workspace")),
             report: if wrong("most bytes") { 6 } else { u64::MAX },
-        },
+        }),
     }
 }
 

@@ -1,6 +1,7 @@
--- `propagate::go_all` meets its contract: no way, one, or two, of which the first leaves the row of the visit as it was.
+-- `propagate::go_all` meets its contract: no way, one, or two, of which the first leaves the row of the visit as it was. What the first came to
+-- is searched for, whatever the form in which a refusal is passed on; so an edit that passes on another is refused for what it says.
 use native.Mathlib.Omega.{arith}
-use Rattle.std.proofs.Common.{◌≡◌, Err, rules}
+use Rattle.std.proofs.Common.{◌≡◌, Ok, Err, rules}
 use Rattle.visit.proofs.Visits.{looking-standing}
 use Rattle.propagate.proofs.Twice.{no-ways, one_way, two-stop, stands_after, two_ways}
 use Rattle.propagate.proofs.go_all.Goals as goal
@@ -25,7 +26,8 @@ ways_of-requires c =
 pub go-requires-in-Two-2 : goal.go-requires-in-Two-2
 go-requires-in-Two-2 c =
     let a = c.args in
-    record { pass_ready = stands_after a.s.now a.ws.now a.t a.ch a.v a.l a.q c.requires c.operand-condition.result c.operand-condition.ensures c.exit_of-exit.result c.exit_of-exit.ensures c.ways_of.result c.ways_of.ensures c.in-Two.next c.in-Two.target c.in-Two.is c.go-in-Two.new.ws c.in_ok-q-in-Two.q (rw c.in_ok-q-in-Two.was at c.go-in-Two.ensures.passed) c.go-in-Two.ensures.beside; value = c.exit_of-exit.ensures }
+    let on : c.go-in-Two.result ≡ Ok c.in_ok-q-in-Two.q = search rules in
+    record { pass_ready = stands_after a.s.now a.ws.now a.t a.ch a.v a.l a.q c.requires c.operand-condition.result c.operand-condition.ensures c.exit_of-exit.result c.exit_of-exit.ensures c.ways_of.result c.ways_of.ensures c.in-Two.next c.in-Two.target c.in-Two.is c.go-in-Two.new.ws c.in_ok-q-in-Two.q (rw on at c.go-in-Two.ensures.passed) c.go-in-Two.ensures.beside; value = c.exit_of-exit.ensures }
 
 pub returns-in-Zero : goal.returns-in-Zero
 returns-in-Zero c =
@@ -41,9 +43,11 @@ pub returns-in_err-q-in-Two : goal.returns-in_err-q-in-Two
 returns-in_err-q-in-Two c =
     let a = c.args in
     let e : c.from_residual.result ≡ Err c.in_err-q-in-Two.field-0.0 = search rules in
-    rw e (two-stop a.s.now a.ws.now a.t a.ch a.v a.l a.q c.requires c.operand-condition.result c.operand-condition.ensures c.exit_of-exit.result c.exit_of-exit.ensures c.ways_of.result c.ways_of.ensures c.in-Two.next c.in-Two.target c.in-Two.is c.go-in-Two.new.ws c.in_err-q-in-Two.field-0.0 (rw c.in_err-q-in-Two.was at c.go-in-Two.ensures.passed))
+    let stop : c.go-in-Two.result ≡ Err c.in_err-q-in-Two.field-0.0 = search rules in
+    rw e (two-stop a.s.now a.ws.now a.t a.ch a.v a.l a.q c.requires c.operand-condition.result c.operand-condition.ensures c.exit_of-exit.result c.exit_of-exit.ensures c.ways_of.result c.ways_of.ensures c.in-Two.next c.in-Two.target c.in-Two.is c.go-in-Two.new.ws c.in_err-q-in-Two.field-0.0 (rw stop at c.go-in-Two.ensures.passed))
 
 pub returns-in_ok-q-in-Two : goal.returns-in_ok-q-in-Two
 returns-in_ok-q-in-Two c =
     let a = c.args in
-    two_ways a.s.now a.ws.now a.t a.ch a.v a.l a.q c.requires c.operand-condition.result c.operand-condition.ensures c.exit_of-exit.result c.exit_of-exit.ensures c.ways_of.result c.ways_of.ensures c.in-Two.next c.in-Two.target c.in-Two.is c.go-in-Two.new.ws c.in_ok-q-in-Two.q (rw c.in_ok-q-in-Two.was at c.go-in-Two.ensures.passed) c.go-in-Two.ensures.beside c.go-in-Two-2.new.ws c.go-in-Two-2.result c.go-in-Two-2.ensures.passed
+    let on : c.go-in-Two.result ≡ Ok c.in_ok-q-in-Two.q = search rules in
+    two_ways a.s.now a.ws.now a.t a.ch a.v a.l a.q c.requires c.operand-condition.result c.operand-condition.ensures c.exit_of-exit.result c.exit_of-exit.ensures c.ways_of.result c.ways_of.ensures c.in-Two.next c.in-Two.target c.in-Two.is c.go-in-Two.new.ws c.in_ok-q-in-Two.q (rw on at c.go-in-Two.ensures.passed) c.go-in-Two.ensures.beside c.go-in-Two-2.new.ws c.go-in-Two-2.result c.go-in-Two-2.ensures.passed
